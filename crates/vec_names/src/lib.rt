@@ -1,0 +1,14 @@
+//! The names that every other part speaks in: places of items, rows of the indexed table, and an
+//! index's parameters; with the six bytes that spell a place, and lists and maps as values.
+#![tactic(auto)]
+
+mod heap_id;
+mod params;
+mod tid;
+
+pub use heap_id::HeapId;
+pub use params::{Kind, Ops, Params};
+pub use tid::Tid;
+
+#[cfg(test)]
+mod tests;
