@@ -1,2 +1,5 @@
 mod Cutting
+mod Forms
+mod LineCuts
+mod Readings
 mod Spelling

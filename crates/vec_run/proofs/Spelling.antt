@@ -1,8 +1,10 @@
 -- Texts of numbers and ids.
-use Rattle.std.proofs.Common.{◌≡◌, refl, sym, ap, ap₂, inl, ◌∙◌, subst, ℕ, ◌+◌, ◌≤◌, take, drop, List, [], ◌∷◌, ◌++◌, ◌^◌, ◌<◌, arith, decimal}
+use Rattle.std.proofs.Common.{◌≡◌, refl, sym, ap, ap₂, inl, ◌∙◌, subst, ℕ, ◌+◌, ◌≤◌, take, drop, length, ◌-◌, List, [], ◌∷◌, ◌++◌, ◌^◌, ◌<◌, arith, decimal}
 use Rattle.std.specs.Prelude.{Bool, true, nat_eq, ◌&&◌}
 use Rattle.std.specs.Cmp.Lexicographic.{pointwise}
 use Rattle.std.proofs.lemmas.Bool.{eq-eqb}
+use Rattle.std.proofs.lemmas.List.{take_all, length-drop}
+use Rattle.std.proofs.lemmas.Fmt.{decimal_injective}
 use Rattle.vec_names.specs.declared.heap_id.HeapId.{HeapId}
 use Rattle.vec_run.specs.Lines.{Lacks, IsCutAt}
 use Rattle.vec_run.specs.Grammar.{IsId}
@@ -36,3 +38,16 @@ id_from name at id cut block off block_fits off_fits off_some = record {
   off_fits = off_fits;
   off_some = off_some;
 }
+
+-- a slice to the end
+pub rest_of : (text : List ℕ) (at : ℕ) → take (length text - at) (drop at text) ≡ drop at text
+rest_of text at = take_all (length text - at) (drop at text) (omega (arith, length-drop at text))
+
+-- the numbers that were read are those of the id
+pub id_block : (name : List ℕ) (at block : ℕ) (id : HeapId) → IsCutAt 47 name at → IsId name id → block < 2 ^ 64 → take at name ≡ decimal block → id.block ≡ block
+id_block name at block id cut is small read =
+    decimal_injective id.block block (omega (arith, is.block_fits)) small (sym (id_parts name at id cut is).0 ∙ read)
+
+pub id_off : (name : List ℕ) (at off : ℕ) (id : HeapId) → IsCutAt 47 name at → IsId name id → off < 2 ^ 64 → drop (at + 1) name ≡ decimal off → id.off ≡ off
+id_off name at off id cut is small read =
+    decimal_injective id.off off (omega (arith, is.off_fits)) small (sym (id_parts name at id cut is).1 ∙ read)

@@ -3,9 +3,14 @@
 
 mod command;
 mod cuts;
+mod fault;
+mod line;
 mod numbers;
+mod script;
 
-fn main() {
+fn main(rt: HostRuntime) {
+    let _ = script::read_script(rt.alloc(), b"");
+    let _ = line::read_line(rt.alloc(), b"row 1/1 0");
     let _ = numbers::read_id(b"1/1");
     let _ = cuts::find_byte(b"1/1", 47);
 }
