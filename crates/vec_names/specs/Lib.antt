@@ -1,1 +1,4 @@
 pub mod Params
+pub mod Order
+pub mod Places
+pub mod Pointer

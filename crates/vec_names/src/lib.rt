@@ -4,6 +4,7 @@
 
 mod heap_id;
 mod params;
+mod pointer;
 mod tid;
 
 pub use heap_id::HeapId;
