@@ -3,11 +3,15 @@
 #![tactic(auto)]
 
 mod heap_id;
+mod listed;
+mod mapped;
 mod params;
 mod pointer;
 mod tid;
 
 pub use heap_id::HeapId;
+pub use listed::Listed;
+pub use mapped::Mapped;
 pub use params::{Kind, Ops, Params};
 pub use tid::Tid;
 
