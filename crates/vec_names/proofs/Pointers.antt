@@ -1,14 +1,12 @@
 -- What was spelled is read again, and what is read was spelled so.
-use Rattle.std.proofs.Common.{◌≡◌, ℕ, ◌+◌, ◌*◌, ◌/◌, ◌%◌, ◌<◌, ◌≤◌, ◌^◌, Bool, true, false, ◌&&◌, ◌&&◌, cond, eqb, List, [], ◌∷◌, ◌++◌, length, get_or, take, drop, Option, Some, None, refl, sym, subst, ◌∙◌, arith, lit<}
-use Rattle.std.specs.Int.{w16, to_le_bytes, from_le_bytes}
-use Rattle.std.specs.Prelude.{IfSome, MatchOption}
+use Rattle.std.proofs.Common.{◌≡◌, ℕ, ◌+◌, ◌*◌, ◌/◌, ◌%◌, ◌<◌, ◌^◌, Bool, true, false, ◌&&◌, ◌&&◌, cond, eqb, List, [], ◌∷◌, length, get_or, Option, Some, None, refl, sym, subst, arith, lit<}
+use Rattle.std.specs.Prelude.{IfSome}
 use Rattle.std.specs.Option.{option_map}
 use Rattle.std.proofs.lemmas.Bool.{ne_eqb, and_parts, eqb-true}
-use Rattle.std.proofs.lemmas.Nat.{le_bytes_2, from_le_bytes-to_le_bytes_2}
-use Rattle.std.proofs.lemmas.List.{length-take, length-drop, get_or-take, get_or-drop, take-append-drop}
+use Rattle.std.proofs.lemmas.Nat.{from_le_bytes-to_le_bytes_2}
 use Rattle.vec_names.specs.declared.tid.Tid.{Tid}
 use Rattle.vec_names.specs.declared.heap_id.HeapId.{HeapId}
-use Rattle.vec_names.proofs.PlaceLaws.{tid_of-some, tid_of-none, tid_of-numbers, heap_id_of-some, heap_id_of-none, heap_id_of-numbers}
+use Rattle.vec_names.proofs.PlaceLaws.{tid_of-some, tid_of-numbers, heap_id_of-some, heap_id_of-numbers}
 use Rattle.vec_names.specs.Places.{tid_of, heap_id_of}
 use Rattle.vec_names.specs.Pointer.{pointer_bytes, no_block, tid_bytes, tid_option_bytes, heap_id_bytes, heap_id_option_bytes, block_in, off_in, tid_in, tid_option_of, tid_option_in, heap_id_in, heap_id_option_of, heap_id_option_in}
 
@@ -63,7 +61,6 @@ pointer_bytes-back (a ∷ b ∷ c ∷ []) len fits = absurd (omega arith)
 pointer_bytes-back (a ∷ b ∷ []) len fits = absurd (omega arith)
 pointer_bytes-back (a ∷ []) len fits = absurd (omega arith)
 pointer_bytes-back [] len fits = absurd (omega arith)
-
 
 -- bytes are those that spell their two numbers
 pub again_from : (bytes : List ℕ) (block off : ℕ) → length bytes ≡ 6 → AreBytes bytes → block ≡ block_in bytes → off ≡ off_in bytes → bytes ≡ pointer_bytes block off

@@ -5,6 +5,7 @@
 mod heap_id;
 mod listed;
 mod mapped;
+mod order;
 mod params;
 mod pointer;
 mod tid;
@@ -12,6 +13,7 @@ mod tid;
 pub use heap_id::HeapId;
 pub use listed::Listed;
 pub use mapped::Mapped;
+pub use order::ordered_by_block;
 pub use params::{Kind, Ops, Params};
 pub use tid::Tid;
 
