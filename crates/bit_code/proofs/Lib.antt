@@ -1,0 +1,3 @@
+mod PackedPlaces
+mod PackedTexts
+mod UnequalBytes

@@ -1,0 +1,80 @@
+// The packed value.
+ghost use Rattle.std.specs.Prelude.{◌≡◌, ◌<◌, ◌≤◌, IfOk, IfErr, length, IsTrue, slice_get, Some};
+ghost use Rattle.bit_code.specs.Places.{packed, places};
+ghost use Rattle.bit_code.specs.declared.fault.BitsFault.TheVariants.{Memory};
+
+use crate::BitsFault;
+use std::marker::Model;
+
+/// A value of 1 to 64,000 places, each 0 or 1. Contracts see it as the list of its places.
+///
+/// It is kept as packed bytes, as pgvector's and PostgreSQL's bit strings are: the first place in the highest bit of the
+/// first byte, the unused bits of the last byte 0.
+#[derive(Drop)]
+pub struct Bits {
+    pub(crate) count: u32,
+    pub(crate) bytes: Vec<u8>,
+}
+
+impl Model for Bits {
+    ghost use Rattle.std.specs.Prelude.{List, Bool, take};
+    ghost use Rattle.bit_code.specs.Places.{unpacked, Packed};
+
+    ghost Value = { List Bool };
+
+    ghost view = { λ b. take b.count (unpacked b.bytes.items) };
+
+    ghost invariant = { λ b. Packed b.count b.bytes.items };
+}
+
+impl Bits {
+    /// The greatest number of places.
+    pub const MOST: u32 = 64_000;
+
+    /// An equal value. Only memory can be wanting.
+    pub fn try_clone(&self) -> Result<Bits, BitsFault>
+        ensures equal { IfOk result (λ b. b ≡ self.now) }
+        ensures memory { IfErr result (λ e. e ≡ BitsFault.Memory) }
+    {
+        let bytes = Vec::from_slice(*self.bytes.allocator(), self.bytes.as_slice())?;
+        Ok(Bits {
+            count: self.count,
+            bytes,
+        })
+    }
+
+    /// The number of places, 1 to 64,000.
+    pub fn count(&self) -> u32
+        ensures count { result ≡ length self.now }
+        ensures some { 1 ≤ result }
+        ensures few { result ≤ 64000 }
+    {
+        self.count
+    }
+
+    /// The packed bytes, one for each eight places or part of eight.
+    pub fn bytes(&self) -> &[u8]
+        ensures { result.now ≡ packed self.now }
+    {
+        let bytes = self.bytes.as_slice();
+        bytes
+    }
+
+    /// Whether the place, from 0, is 1.
+    pub fn get(&self, place: u32) -> bool
+        requires { place < length self.now }
+        ensures { slice_get self.now place ≡ Some result }
+    {
+        let byte = self.bytes[place as usize / 8];
+        is_one(byte, place % 8)
+    }
+}
+
+// Whether a place of a byte, from 0 at its highest bit, is 1.
+#[inline(always)]
+fn is_one(byte: u8, place: u32) -> bool
+    requires { place < 8 }
+    ensures { slice_get (places 8 byte) place ≡ Some result }
+{
+    (byte >> (7 - place)) & 1 == 1
+}

@@ -1,0 +1,12 @@
+//! Bit values of 1 to 64,000 places: their texts, their packed bytes, and counts over them.
+#![tactic(auto)]
+
+mod bits;
+mod counts;
+mod fault;
+mod texts;
+
+pub use bits::Bits;
+pub use counts::count_unequal;
+pub use fault::BitsFault;
+pub use texts::read_bits;

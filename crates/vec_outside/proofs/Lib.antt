@@ -1,0 +1,3 @@
+pub mod Exits
+mod InMemory
+pub mod Moments

@@ -1,0 +1,24 @@
+//! What the program meets outside itself: a source and a sink of bytes, three areas of a disk, and the pace of its
+//! workers. Each has a version in memory, whose bytes and faults contracts name, and a thin one over the system.
+#![tactic(auto)]
+
+mod areas;
+mod disks;
+mod file_streams;
+mod mem_disks;
+mod mem_streams;
+mod outage;
+mod pace;
+mod plan;
+mod steps;
+mod streams;
+mod timeline;
+
+pub use disks::{Area, Disks};
+pub use file_streams::{FileSink, FileSource};
+pub use mem_disks::MemDisks;
+pub use mem_streams::{MemSink, MemSource};
+pub use outage::Outage;
+pub use pace::{NoPace, Pace};
+pub use steps::write_synced;
+pub use streams::{Sink, Source};

@@ -1,0 +1,56 @@
+-- What is written for the commands of `exact`.
+use Rattle.std.specs.Prelude.{ℕ, ◌≡◌, Bool, Option, Some, None, List, [], ◌∷◌, ◌++◌, length, map, codes, decimal}
+use Rattle.std.specs.List.{filter_map, flat_map}
+use Rattle.std.specs.declared.cmp.Ordering.{Ordering}
+use Rattle.std.specs.Ordering.{nat_cmp, ordering_then, is_lt}
+use Rattle.vec_names.specs.declared.heap_id.HeapId.{HeapId}
+use Rattle.bit_dist.specs.declared.dist.Dist.{Dist}
+use Rattle.bit_dist.specs.Distances.{hamming_of, dist_cmp}
+use Rattle.bit_dist.specs.Ranking.{ranked}
+use Rattle.vec_run.specs.declared.command.Command.{Command}
+use Rattle.vec_run.specs.declared.command.Command.TheVariants.{Row, Query}
+
+-- a row's distance and its id
+abbrev pub Hit : Type 0
+Hit = Dist × HeapId
+
+-- by distance, then by block, then by offset
+abbrev pub hit_cmp : Hit → Hit → Ordering
+hit_cmp a b = ordering_then (dist_cmp a.0 b.0) (ordering_then (nat_cmp a.1.block b.1.block) (nat_cmp a.1.off b.1.off))
+
+abbrev pub is_nearer : Hit → Hit → Bool
+is_nearer a b = is_lt (hit_cmp a b)
+
+-- the hit of a value with a row; a query is no row
+abbrev pub hit_with : List Bool → Command → Option Hit
+hit_with value (Row id bits) = Some (hamming_of bits value, id)
+hit_with value (Query bits) = None
+
+-- the rows among the commands by (distance, id), equal ones in line order
+abbrev pub nearest : List Bool → List Command → List Hit
+nearest value above = ranked is_nearer (filter_map (hit_with value) above)
+
+-- B/O
+abbrev pub id_text : HeapId → List ℕ
+id_text id = decimal id.block ++ 47 ∷ decimal id.off
+
+-- `hit ID DIST`
+abbrev pub hit_line : Hit → List ℕ
+hit_line hit = codes "hit " ++ id_text hit.1 ++ 32 ∷ decimal hit.0.num ++ 10 ∷ []
+
+-- a line for each hit, and then `hits N`
+abbrev pub hits_text : List Hit → List ℕ
+hits_text hits = flat_map hit_line hits ++ codes "hits " ++ decimal (length hits) ++ 10 ∷ []
+
+-- what a command is answered, after the commands above it
+abbrev pub reply_of : List Command → Command → List ℕ
+reply_of above (Row id bits) = []
+reply_of above (Query bits) = hits_text (nearest bits above)
+
+-- what is written for commands, after those above them
+abbrev pub replies_after : List Command → List Command → List ℕ
+replies_after above [] = []
+replies_after above (command ∷ commands) = reply_of above command ++ replies_after (above ++ command ∷ []) commands
+
+abbrev pub replies_of : List Command → List ℕ
+replies_of commands = replies_after [] commands
