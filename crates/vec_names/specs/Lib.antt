@@ -1,1 +1,5 @@
 pub mod Params
+pub mod Order
+pub mod Places
+pub mod Pointer
+pub mod Lending

@@ -3,10 +3,17 @@
 #![tactic(auto)]
 
 mod heap_id;
+mod listed;
+mod mapped;
+mod order;
 mod params;
+mod pointer;
 mod tid;
 
 pub use heap_id::HeapId;
+pub use listed::Listed;
+pub use mapped::Mapped;
+pub use order::ordered_by_block;
 pub use params::{Kind, Ops, Params};
 pub use tid::Tid;
 

@@ -1,4 +1,5 @@
 use super::*;
+use std::alloc::AllocError;
 use std::test::*;
 
 fn graph(m: u16, ef: u16) -> Params {
@@ -48,4 +49,70 @@ fn ordered_by_block_then_offset(rt: HostRuntime) {
     assert!(rt; Tid { block: 1, off: 9 } < Tid { block: 2, off: 1 });
     assert!(rt; HeapId { block: 1, off: 1 } < HeapId { block: 1, off: 2 });
     assert!(rt; HeapId { block: 7, off: 2 } == HeapId { block: 7, off: 2 });
+}
+
+#[test]
+fn pointers_spelled_and_read(rt: HostRuntime) {
+    let place = Tid { block: 1, off: 2 };
+    let far = HeapId {
+        block: 0x0001_0203,
+        off: 0x0405,
+    };
+    assert_eq!(rt; place.spelled(), [0, 0, 1, 0, 2, 0]);
+    assert_eq!(rt; far.spelled(), [1, 0, 3, 2, 5, 4]);
+    assert_eq!(rt; Tid::spelled_option(None), [255, 255, 255, 255, 0, 0]);
+    assert_eq!(rt; HeapId::spelled_option(Some(far)), far.spelled());
+    assert_eq!(rt; HeapId::new(1, 0), None);
+
+    // The bytes, the place that they spell, and the row.
+    let rows: [([u8; 6], Option<Tid>, Option<HeapId>); 5] = [
+        ([0, 0, 1, 0, 2, 0], Tid::new(1, 2), HeapId::new(1, 2)),
+        (
+            [0, 0, 255, 127, 1, 0],
+            Tid::new(32_767, 1),
+            HeapId::new(32_767, 1),
+        ),
+        ([0, 0, 0, 128, 1, 0], None, HeapId::new(32_768, 1)),
+        ([0, 0, 1, 0, 0, 0], None, None),
+        ([255, 255, 255, 255, 1, 0], None, None),
+    ];
+    for (bytes, place, row) in rows {
+        assert_eq!(rt; Tid::read(bytes), place);
+        assert_eq!(rt; HeapId::read(bytes), row);
+        assert!(rt; Tid::read_option(bytes).is_some() == place.is_some());
+    }
+    assert_eq!(rt; Tid::read_option([255, 255, 255, 255, 0, 0]), Some(None));
+    assert_eq!(rt; HeapId::read_option([1, 0, 3, 2, 5, 4]), Some(Some(far)));
+}
+
+#[test]
+fn lists_and_maps(rt: HostRuntime) -> Result<(), AllocError> {
+    let mut list = Listed::new(rt.alloc());
+    list.push(3u16)?;
+    list.extend_from_slice(&[5, 7, 9])?;
+    list.set(0, 4);
+    assert_eq!(rt; list.remove(1), 5);
+    let copy = list.try_clone(rt.alloc())?;
+    assert_eq!(rt; copy.as_slice(), [4u16, 7, 9].as_slice());
+    assert_eq!(rt; list.pop(), Some(9));
+    assert_eq!(rt; list.get(1).copied(), Some(7));
+    list.truncate(1);
+    assert_eq!(rt; list.len(), 1);
+    list.clear();
+    assert!(rt; list.is_empty() && !copy.is_empty());
+    assert_eq!(rt; Listed::from_vec(copy.into_vec()).len(), 3);
+
+    let here = Tid { block: 1, off: 2 };
+    let there = Tid { block: 2, off: 1 };
+    let mut map = Mapped::new(rt.alloc());
+    map.insert(there, 20u32)?;
+    map.insert(here, 10)?;
+    if let Some(value) = map.get_mut(here) {
+        *value = 11;
+    }
+    assert_eq!(rt; map.get(here).copied(), Some(11));
+    assert_eq!(rt; map.iter().next().map(|(place, _)| *place), Some(here));
+    assert_eq!(rt; map.remove(there), Some(20));
+    assert_eq!(rt; map.len(), 1);
+    Ok(())
 }
