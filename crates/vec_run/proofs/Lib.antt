@@ -1,3 +1,4 @@
+mod AnswerSteps
 mod Cutting
 mod Forms
 mod LineCuts

@@ -38,9 +38,13 @@ id_text id = decimal id.block ++ 47 ∷ decimal id.off
 abbrev pub hit_line : Hit → List ℕ
 hit_line hit = codes "hit " ++ id_text hit.1 ++ 32 ∷ decimal hit.0.num ++ 10 ∷ []
 
--- a line for each hit, and then `hits N`
+-- `hits N`
+abbrev pub count_line : ℕ → List ℕ
+count_line n = codes "hits " ++ decimal n ++ 10 ∷ []
+
+-- a line for each hit, and one with their count
 abbrev pub hits_text : List Hit → List ℕ
-hits_text hits = flat_map hit_line hits ++ codes "hits " ++ decimal (length hits) ++ 10 ∷ []
+hits_text hits = flat_map hit_line hits ++ count_line (length hits)
 
 -- what a command is answered, after the commands above it
 abbrev pub reply_of : List Command → Command → List ℕ

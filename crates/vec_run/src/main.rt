@@ -6,7 +6,9 @@ mod cuts;
 mod fault;
 mod line;
 mod numbers;
+mod replies;
 mod script;
+mod streams;
 
 fn main(rt: HostRuntime) {
     let _ = script::read_script(rt.alloc(), b"");
