@@ -1,9 +1,11 @@
 -- Lines of the form, one after the other.
-use Rattle.std.proofs.Common.{◌≡◌, ◌≢◌, refl, sym, ap, ap₂, ◌∙◌, ◌⊎◌, inl, inr, subst, ℕ, zero, suc, ◌+◌, ◌^◌, ◌<◌, ◌≤◌, List, [], ◌∷◌, ◌++◌, length, get_or, take, drop, map, arith, append_assoc, length-append}
-use Rattle.std.specs.Prelude.{Bool, Option, Some, None, codes}
+use Rattle.std.proofs.Common.{◌≡◌, ◌≢◌, refl, sym, ap, ap₂, ◌∙◌, ◌⊎◌, ⊎_elim, inl, inr, subst, ℕ, zero, suc, ◌+◌, ◌^◌, ◌<◌, ◌≤◌, List, [], ◌∷◌, ◌++◌, length, get_or, take, drop, map, arith, append_assoc, length-append}
+use Rattle.std.specs.Prelude.{Bool, Option, Some, None, IfSome, codes}
 use Rattle.std.specs.List.{AllZip, filter_map}
 use Rattle.std.proofs.Math.Seq.{take-length}
-use Rattle.std.proofs.lemmas.List.{append-nil, take_at}
+use Rattle.std.proofs.lemmas.List.{append-nil, take_at, take-append-le, get_or-take, length-take}
+use Rattle.std.proofs.lemmas.Bool.{cases_lt}
+use Rattle.std.specs.Io.KnownBytes.{Consumes, IsAtEnd}
 use Rattle.vec_names.specs.declared.heap_id.HeapId.{HeapId}
 use Rattle.bit_code.specs.Texts.{places_of_text}
 use Rattle.vec_run.specs.declared.command.Command.{Command}
@@ -11,7 +13,7 @@ use Rattle.vec_run.specs.declared.command.Command.TheVariants.{Row, Query}
 use Rattle.vec_run.specs.declared.fault.ScriptFault.{ScriptFault}
 use Rattle.vec_run.specs.declared.fault.ScriptFault.TheVariants as script
 use Rattle.vec_run.specs.Lines.{lines_of, closed_part}
-use Rattle.vec_run.specs.Grammar.{IsId, IsBits, IsPair, IsRow, IsQuery, IsSkipped, IsLine, IsForm, IsScript, BreaksAt, IsFirstOutside, IsScriptFault, IsFormFault, IsTextFault, Reads, FitsAfter, AreEqual, AllAre, lengths_of, commands_of, places_in}
+use Rattle.vec_run.specs.Grammar.{IsId, IsBits, IsPair, IsRow, IsQuery, IsSkipped, IsLine, IsForm, IsScript, BreaksAt, BreaksBy, IsFirstOutside, IsScriptFault, IsFormFault, IsTextFault, Reads, FitsAfter, AreEqual, AllAre, lengths_of, commands_of, places_in}
 use Rattle.vec_run.proofs.Cutting.{one_cut}
 use Rattle.vec_run.proofs.Readings.{id_lacks_space}
 
@@ -229,3 +231,55 @@ long_fault bytes front (script.Line k) many is bad = inr (many, inl (subst (λ (
 
 pub past_fault : (bytes front : List ℕ) (commands : List Command) (count : ℕ) → 2 ^ 28 < length bytes → front ≡ closed_part (take (2 ^ 28) bytes) → Reads (lines_of front) commands count → IsScriptFault bytes (script.Line count)
 past_fault bytes front commands count many is reads = inr (many, inr (reads.counted ∙ ap (λ (l : List ℕ). length (lines_of l)) is, (reads.lines, subst (λ (l : List ℕ). IsForm (lines_of l) reads.lines) is reads.form)))
+
+-- the values of a script's commands have one length
+pub script_lengths : (bytes : List ℕ) (commands : List Command) → IsScript bytes commands → AreEqual (map places_in commands)
+script_lengths bytes commands script =
+    subst AreEqual (sym (ap (λ (cs : List Command). map places_in cs) script.gives ∙ lengths-commands script.lines)) script.form.one_length
+
+all_at : (n k : ℕ) (commands : List Command) (d : Command) → AllAre n (map places_in commands) → k < length commands → places_in (get_or commands k d) ≡ n
+all_at n k [] d all within = absurd (omega (arith, within))
+all_at n zero (c ∷ commands) d all within = all.0
+all_at n (suc k) (c ∷ commands) d all within = all_at n k commands d all.1 (omega (arith, within))
+
+first_at : (k : ℕ) (c : Command) (commands : List Command) (d : Command) → AreEqual (map places_in (c ∷ commands)) → k < length (c ∷ commands) → places_in (get_or (c ∷ commands) k d) ≡ places_in c
+first_at zero c commands d all within = refl
+first_at (suc k) c commands d all within = all_at (places_in c) k commands d all (omega (arith, within))
+
+-- any two commands of a script
+pub equal_at : (commands : List Command) (j k : ℕ) (d e : Command) → AreEqual (map places_in commands) → j < length commands → k < length commands → places_in (get_or commands j d) ≡ places_in (get_or commands k e)
+equal_at [] j k d e all wj wk = absurd (omega (arith, wj))
+equal_at (c ∷ commands) j k d e all wj wk = first_at j c commands d all wj ∙ sym (first_at k c commands e all wk)
+
+-- ---- what was read is the source's
+
+outside_front : (bytes rest : List ℕ) (k : ℕ) → 2 ^ 28 < length bytes → IsFirstOutside bytes k → IsFirstOutside (bytes ++ rest) k
+outside_front bytes rest k many (inl short) = absurd (let few = short.0 in omega (arith, many, few))
+outside_front bytes rest k many (inr long) =
+    let front : take (2 ^ 28) (bytes ++ rest) ≡ take (2 ^ 28) bytes = take-append-le (2 ^ 28) bytes rest (omega (arith, many)) in
+    inr (omega (arith, many, length-append bytes rest), subst (λ (l : List ℕ). BreaksBy (lines_of (closed_part l)) k) (sym front) long.1)
+
+pub outside_source : (left left' : Option (List ℕ)) (bytes : List ℕ) (k : ℕ) → Consumes left left' bytes → (length bytes ≤ 2 ^ 28 → IsAtEnd left') → IsFirstOutside bytes k → IfSome left (λ input. IsFirstOutside input k)
+outside_source None left' bytes k taken ended bad = tt
+outside_source (Some input) None bytes k taken ended bad = absurd taken
+outside_source (Some input) (Some rest) bytes k taken ended bad = ⊎_elim many few (cases_lt (2 ^ 28) (length bytes))
+  where
+    many : 2 ^ 28 < length bytes → IsFirstOutside input k
+    many more = subst (λ (l : List ℕ). IsFirstOutside l k) (sym taken) (outside_front bytes rest k more bad)
+
+    few : length bytes ≤ 2 ^ 28 → IsFirstOutside input k
+    few less = subst (λ (l : List ℕ). IsFirstOutside l k) (sym (taken ∙ ap (λ (l : List ℕ). bytes ++ l) (ended less) ∙ append-nil bytes)) bad
+
+pub script_source : (left left' : Option (List ℕ)) (bytes : List ℕ) (commands : List Command) → Consumes left left' bytes → (length bytes ≤ 2 ^ 28 → IsAtEnd left') → IsScript bytes commands
+    → IfSome left (λ input. IsAtEnd left' × IsScript input commands)
+script_source None left' bytes commands taken ended script = tt
+script_source (Some input) None bytes commands taken ended script = absurd taken
+script_source (Some input) (Some rest) bytes commands taken ended script =
+    let end : rest ≡ [] = ended script.few in
+    (end, subst (λ (l : List ℕ). IsScript l commands) (sym (taken ∙ ap (λ (l : List ℕ). bytes ++ l) end ∙ append-nil bytes)) script)
+
+pub same_length_above : (commands : List Command) (at k : ℕ) (d command : Command) → AreEqual (map places_in commands) → at < length commands → k < length (take at commands) → command ≡ get_or commands at command
+    → places_in (get_or (take at commands) k d) ≡ places_in command
+same_length_above commands at k d command all inside within is =
+    let below : k < at = omega (arith, within, length-take at commands) in
+    ap places_in (get_or-take at commands k d below) ∙ equal_at commands k at d command all (omega (arith, below, inside)) inside ∙ ap places_in (sym is)

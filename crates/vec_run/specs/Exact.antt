@@ -1,5 +1,5 @@
 -- What a run of `exact` does to its source and its sink.
-use Rattle.std.specs.Prelude.{ℕ, ◌≡◌, ◌⊎◌, ◌+◌, ◌≤◌, List, [], ◌∷◌, length, take, map, codes, Option, IfSome, String, string_bytes}
+use Rattle.std.specs.Prelude.{ℕ, ◌≡◌, ◌⊎◌, ◌+◌, ◌^◌, ◌<◌, ◌≤◌, Bool, IsTrue, List, [], ◌∷◌, ◌++◌, length, take, map, codes, Option, IfSome, String, string_bytes}
 use Rattle.std.specs.Io.KnownBytes.{Appends, Consumes, Keeps, IsAtEnd}
 use Rattle.std.specs.declared.alloc.Global.{Global}
 use Rattle.vec_run.specs.declared.command.Command.{Command}
@@ -14,9 +14,24 @@ AreExact words = map string_bytes words ≡ codes "exact" ∷ []
 abbrev pub TakesAtMost : ℕ → Option (List ℕ) → Option (List ℕ) → Type 0
 TakesAtMost most left left' = (taken : List ℕ) × (length taken ≤ most) × Consumes left left' taken
 
+-- Known bytes lose a front, which goes to the end of others. Nothing goes only at the end.
+pub record ReadsMore (left left' : Option (List ℕ)) (bytes bytes' : List ℕ) (more : Bool) : Type 0 where
+  pub piece : List ℕ
+  pub taken : Consumes left left' piece
+  pub placed : bytes' ≡ bytes ++ piece
+  pub few : length bytes' ≤ 2 ^ 28 + 1
+  pub some : IsTrue more → 0 < length piece
+  pub ended : IsTrue more ⊎ IsAtEnd left'
+
 -- known bytes grow by a front of these
 abbrev pub AppendsFront : Option (List ℕ) → Option (List ℕ) → List ℕ → Type 0
 AppendsFront held held' text = (count : ℕ) × (count ≤ length text) × Appends held held' (take count text)
+
+-- a front of gathered bytes was written, and the rest is left
+pub record MovesFront (held held' : Option (List ℕ)) (gathered left : List ℕ) : Type 0 where
+  pub written : List ℕ
+  pub sent : Appends held held' written
+  pub parts : gathered ≡ written ++ left
 
 -- The source was read to its end. Its bytes are a script, and what was written are the replies to its commands.
 abbrev pub Answers : Option (List ℕ) → Option (List ℕ) → Option (List ℕ) → Option (List ℕ) → Type 0

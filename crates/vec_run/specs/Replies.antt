@@ -1,5 +1,5 @@
 -- What is written for the commands of `exact`.
-use Rattle.std.specs.Prelude.{ℕ, ◌≡◌, Bool, Option, Some, None, List, [], ◌∷◌, ◌++◌, length, map, codes, decimal}
+use Rattle.std.specs.Prelude.{ℕ, ◌≡◌, Bool, Option, Some, None, List, [], ◌∷◌, ◌++◌, length, take, drop, codes, decimal}
 use Rattle.std.specs.List.{filter_map, flat_map}
 use Rattle.std.specs.declared.cmp.Ordering.{Ordering}
 use Rattle.std.specs.Ordering.{nat_cmp, ordering_then, is_lt}
@@ -58,3 +58,11 @@ replies_after above (command ∷ commands) = reply_of above command ++ replies_a
 
 abbrev pub replies_of : List Command → List ℕ
 replies_of commands = replies_after [] commands
+
+-- the reply to the command at a place, after those above it; none past the end
+abbrev pub reply_from : List Command → List Command → List ℕ
+reply_from above [] = []
+reply_from above (command ∷ commands) = reply_of above command
+
+abbrev pub reply_at : List Command → ℕ → List ℕ
+reply_at commands at = reply_from (take at commands) (drop at commands)

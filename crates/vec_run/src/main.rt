@@ -3,9 +3,11 @@
 
 mod command;
 mod cuts;
+mod exact;
 mod fault;
 mod line;
 mod numbers;
+mod outcome;
 mod replies;
 mod script;
 mod streams;

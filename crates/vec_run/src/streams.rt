@@ -1,11 +1,11 @@
 // The whole source, and a text to the sink.
-ghost use Rattle.std.specs.Prelude.{◌≡◌, ◌+◌, ◌^◌, ◌≤◌, length, IfOk, OnOk, OnErr};
+ghost use Rattle.std.specs.Prelude.{◌≡◌, ◌+◌, ◌-◌, ◌^◌, ◌<◌, ◌≤◌, length, IfOk, OnOk, OnErr};
 ghost use Rattle.std.specs.Io.KnownBytes.{Appends, Consumes, IsAtEnd};
 ghost use Rattle.vec_outside.specs.Causes.{HasCause};
-ghost use Rattle.vec_run.specs.Exact.{AppendsFront, TakesAtMost};
+ghost use Rattle.vec_run.specs.Exact.{AppendsFront, ReadsMore, TakesAtMost};
 
 use crate::script::MOST_BYTES;
-use std::alloc::Global;
+use std::alloc::{AllocError, Global};
 use vec_outside::{Outage, Sink, Source};
 
 // The most bytes of one read.
@@ -20,16 +20,39 @@ pub fn read_whole<S: Source>(alloc: Global, source: &mut S) -> Result<Vec<u8>, O
     ensures cause { HasCause (S.count source.old) (S.count source.new) result }
 {
     let mut bytes = Vec::new(alloc);
-    let mut piece = vec![in alloc; 0u8; PIECE]?;
-    while bytes.len() <= MOST_BYTES {
-        let room = PIECE.min(MOST_BYTES + 1 - bytes.len());
-        let count = source.read(&mut piece[..room])?;
-        if count == 0 {
-            break;
+    let mut piece = zeros(alloc, PIECE)?;
+    'pieces: while bytes.len() <= MOST_BYTES {
+        let more = read_piece(source, &mut piece, &mut bytes)?;
+        if !more {
+            return Ok(bytes);
         }
-        bytes.extend_from_slice(&piece[..count])?;
     }
     Ok(bytes)
+}
+
+fn zeros(alloc: Global, size: usize) -> Result<Vec<u8>, AllocError>
+    requires { 0 < size }
+    ensures { IfOk result (λ piece. 0 < length piece.items) }
+{
+    vec![in alloc; 0u8; size]
+}
+
+// Reads once, and appends what came; whether something came.
+fn read_piece<S: Source>(
+    source: &mut S,
+    piece: &mut [u8],
+    bytes: &mut Vec<u8>,
+) -> Result<bool, Outage>
+    requires room { 0 < length piece.old }
+    requires few { length bytes.old.items ≤ 2 ^ 28 }
+    ensures ok { IfOk result (λ more. ReadsMore (S.left source.old) (S.left source.new) bytes.old.items bytes.new.items more) }
+    ensures taken { TakesAtMost (2 ^ 28 + 1 - length bytes.old.items) (S.left source.old) (S.left source.new) }
+    ensures cause { HasCause (S.count source.old) (S.count source.new) result }
+{
+    let room = piece.len().min(MOST_BYTES + 1 - bytes.len());
+    let count = source.read(&mut piece[..room])?;
+    bytes.extend_from_slice(&piece[..count])?;
+    Ok(count > 0)
 }
 
 /// Writes a text, in as large pieces as the sink takes; at an error a front of it was written.
