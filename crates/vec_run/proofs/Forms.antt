@@ -1,9 +1,9 @@
 -- Lines of the form, one after the other.
 use Rattle.std.proofs.Common.{◌≡◌, ◌≢◌, refl, sym, ap, ap₂, ◌∙◌, ◌⊎◌, ⊎_elim, inl, inr, subst, ℕ, zero, suc, ◌+◌, ◌^◌, ◌<◌, ◌≤◌, List, [], ◌∷◌, ◌++◌, length, get_or, take, drop, map, arith, append_assoc, length-append}
-use Rattle.std.specs.Prelude.{Bool, Option, Some, None, IfSome, codes}
-use Rattle.std.specs.List.{AllZip, filter_map}
+use Rattle.std.specs.Prelude.{Bool, Option, Some, None, IfSome, codes, true, false, if◌then◌else◌}
+use Rattle.std.specs.List.{AllZip, filter_map, onto_first}
 use Rattle.std.proofs.Math.Seq.{take-length}
-use Rattle.std.proofs.lemmas.List.{append-nil, take_at, take-append-le, get_or-take, length-take}
+use Rattle.std.proofs.lemmas.List.{append-nil, take_at, take-append-le, take-append-drop, get_or-take, length-take}
 use Rattle.std.proofs.lemmas.Bool.{cases_lt}
 use Rattle.std.specs.Io.KnownBytes.{Consumes, IsAtEnd}
 use Rattle.vec_names.specs.declared.heap_id.HeapId.{HeapId}
@@ -12,7 +12,8 @@ use Rattle.vec_run.specs.declared.command.Command.{Command}
 use Rattle.vec_run.specs.declared.command.Command.TheVariants.{Row, Query}
 use Rattle.vec_run.specs.declared.fault.ScriptFault.{ScriptFault}
 use Rattle.vec_run.specs.declared.fault.ScriptFault.TheVariants as script
-use Rattle.vec_run.specs.Lines.{lines_of, closed_part}
+use Rattle.vec_run.specs.Lines.{lines_of, closed_part, is_line_feed}
+use Rattle.vec_run.proofs.LineCuts.{closed_short}
 use Rattle.vec_run.specs.Grammar.{IsId, IsBits, IsPair, IsRow, IsQuery, IsSkipped, IsLine, IsForm, IsScript, BreaksAt, BreaksBy, IsFirstOutside, IsScriptFault, IsFormFault, IsTextFault, Reads, FitsAfter, AreEqual, AllAre, lengths_of, commands_of, places_in}
 use Rattle.vec_run.proofs.Cutting.{one_cut}
 use Rattle.vec_run.proofs.Readings.{id_lacks_space}
@@ -283,3 +284,57 @@ pub same_length_above : (commands : List Command) (at k : ℕ) (d command : Comm
 same_length_above commands at k d command all inside within is =
     let below : k < at = omega (arith, within, length-take at commands) in
     ap places_in (get_or-take at commands k d below) ∙ equal_at commands k at d command all (omega (arith, below, inside)) inside ∙ ap places_in (sym is)
+
+-- ---- a script has no line outside
+
+all_front : (n : ℕ) (us vs : List ℕ) → AllAre n (us ++ vs) → AllAre n us
+all_front n [] vs all = tt
+all_front n (u ∷ us) vs all = (all.0, all_front n us vs all.1)
+
+equal_front : (us vs : List ℕ) → AreEqual (us ++ vs) → AreEqual us
+equal_front [] vs all = tt
+equal_front (u ∷ us) vs all = all_front u us vs all
+
+zip_front : (n : ℕ) (texts : List (List ℕ)) (lines : List (Option Command)) → AllZip IsLine texts lines → AllZip IsLine (take n texts) (take n lines)
+zip_front zero texts lines each = tt
+zip_front (suc n) [] [] each = tt
+zip_front (suc n) [] (l ∷ lines) each = absurd each
+zip_front (suc n) (t ∷ texts) [] each = absurd each
+zip_front (suc n) (t ∷ texts) (l ∷ lines) each = (each.0, zip_front n texts lines each.1)
+
+form_front : (n : ℕ) (texts : List (List ℕ)) (lines : List (Option Command)) → IsForm texts lines → IsForm (take n texts) (take n lines)
+form_front n texts lines form = record {
+  each = zip_front n texts lines form.each;
+  one_length =
+      equal_front (lengths_of (take n lines)) (lengths_of (drop n lines))
+      (subst AreEqual (ap lengths_of (sym (take-append-drop n lines)) ∙ lengths-append (take n lines) (drop n lines)) form.one_length);
+}
+
+pub no_line_outside : (bytes : List ℕ) (commands : List Command) (k : ℕ) → IsScript bytes commands → IsFirstOutside bytes k → ⊥
+no_line_outside bytes commands k script (inl short) = short.1.broken (take (k + 1) script.lines) (form_front (k + 1) (lines_of bytes) script.lines script.form)
+no_line_outside bytes commands k script (inr long) = let few = script.few in let many = long.0 in absurd (omega (arith, few, many))
+
+pub source_not_refused : (left : Option (List ℕ)) (input : List ℕ) (commands : List Command) (k : ℕ) → left ≡ Some input → IsScript input commands → IfSome left (λ bytes. IsFirstOutside bytes k) → ⊥
+source_not_refused left input commands k told script refused = no_line_outside input commands k script (subst (λ (o : Option (List ℕ)). IfSome o (λ bytes. IsFirstOutside bytes k)) told refused)
+
+-- ---- the number of a line
+
+first_short : (byte : ℕ) (parts : List (List ℕ)) (n : ℕ) → length parts ≤ n → length (onto_first byte parts) ≤ suc n
+first_short byte [] n h = omega arith
+first_short byte (p ∷ parts) n h = omega (arith, h)
+
+lines_short : (bytes : List ℕ) → length (lines_of bytes) ≤ length bytes
+lines_short [] = omega arith
+lines_short (b ∷ bytes) = by_test (is_line_feed b) (lines_short bytes)
+  where
+    by_test : (test : Bool) → length (lines_of bytes) ≤ length bytes → length (if test then [] ∷ lines_of bytes else onto_first b (lines_of bytes)) ≤ suc (length bytes)
+    by_test true fewer = omega (arith, fewer)
+    by_test false fewer = first_short b (lines_of bytes) (length bytes) fewer
+
+closed_few : (bytes : List ℕ) → length (lines_of (closed_part (take (2 ^ 28) bytes))) ≤ 2 ^ 28
+closed_few bytes = omega (arith, lines_short (closed_part (take (2 ^ 28) bytes)), closed_short (take (2 ^ 28) bytes), length-take (2 ^ 28) bytes)
+
+pub outside_small : (bytes : List ℕ) (k : ℕ) → IsFirstOutside bytes k → k ≤ 2 ^ 28
+outside_small bytes k (inl short) = let within = short.1.within in let few = short.0 in omega (arith, within, few, lines_short bytes)
+outside_small bytes k (inr (many, inl breaks)) = let within = breaks.within in omega (arith, within, closed_few bytes)
+outside_small bytes k (inr (many, inr after)) = let is = after.0 in omega (arith, is, closed_few bytes)

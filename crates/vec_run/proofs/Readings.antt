@@ -21,19 +21,9 @@ use Rattle.vec_run.specs.Grammar.{IsId, IsBits, IsPair, IsOutsideOr, IsRow, IsQu
 use Rattle.vec_run.specs.declared.command.Command.{Command}
 use Rattle.vec_run.specs.declared.command.Command.TheVariants.{Row, Query}
 use Rattle.vec_run.proofs.Cutting.{lacks_append, lacks_cons, decimal_lacks, no_cut, cut_parts}
-use Rattle.vec_run.proofs.Spelling.{same_text, rest_of}
+use Rattle.vec_run.proofs.Spelling.{same_text, equal_texts, rest_of}
 
 -- ---- the word before the rest
-
-equal_step : (x y : ℕ) (xs ys : List ℕ) (b : Bool) → (x == y) ≡ b → (pointwise nat_eq xs ys ≡ true → xs ≡ ys) → (b && pointwise nat_eq xs ys) ≡ true → x ∷ xs ≡ y ∷ ys
-equal_step x y xs ys false is rest h = absurd (cc)
-equal_step x y xs ys true is rest h = ap₂ (λ (n : ℕ) (ns : List ℕ). n ∷ ns) (eqb-true x y is) (rest h)
-
-equal_texts : (xs ys : List ℕ) → pointwise nat_eq xs ys ≡ true → xs ≡ ys
-equal_texts [] [] h = refl
-equal_texts [] (y ∷ ys) h = absurd (cc)
-equal_texts (x ∷ xs) [] h = absurd (cc)
-equal_texts (x ∷ xs) (y ∷ ys) h = equal_step x y xs ys (x == y) refl (equal_texts xs ys) h
 
 pub stripped : (text word rest : List ℕ) → pointwise nat_eq (take (length word) text) word ≡ true → rest ≡ drop (length word) text → text ≡ word ++ rest
 stripped text word rest same is =

@@ -1,5 +1,5 @@
 -- What a run that halts leaves.
-use Rattle.std.specs.Prelude.{ℕ, ◌≡◌, ◌⊎◌, List, Option, IfSome}
+use Rattle.std.specs.Prelude.{ℕ, ◌≡◌, ◌⊎◌, ◌^◌, ◌≤◌, List, Option, IfSome}
 use Rattle.vec_run.specs.declared.exact.Halt.{Halt}
 use Rattle.vec_run.specs.declared.exact.Halt.TheVariants.{Memory, Line, Read, Write}
 use Rattle.vec_run.specs.Grammar.{IsFirstOutside}
@@ -31,3 +31,9 @@ IsHaltedBy left held held' Memory = (held' ≡ held) ⊎ AnswersFront left held 
 IsHaltedBy left held held' (Line k) = IfSome left (λ input. IsFirstOutside input k)
 IsHaltedBy left held held' Read = Unit {0}
 IsHaltedBy left held held' Write = AnswersFront left held held'
+
+abbrev pub HasSmallLine : Halt → Type 0
+HasSmallLine Memory = Unit {0}
+HasSmallLine (Line k) = k ≤ 2 ^ 28
+HasSmallLine Read = Unit {0}
+HasSmallLine Write = Unit {0}

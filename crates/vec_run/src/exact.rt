@@ -5,7 +5,7 @@ ghost use Rattle.vec_outside.specs.Causes.{Rose};
 ghost use Rattle.vec_run.specs.Grammar.{AreEqual, IsScript, places_in};
 ghost use Rattle.vec_run.specs.Replies.{replies_of, reply_at};
 ghost use Rattle.vec_run.specs.Exact.{Answers, AppendsFront, MovesFront, TakesAtMost};
-ghost use Rattle.vec_run.specs.Halts.{HaltsReading, HaltsWriting, IsBeforeWriting, IsHaltedBy};
+ghost use Rattle.vec_run.specs.Halts.{HasSmallLine, HaltsReading, HaltsWriting, IsBeforeWriting, IsHaltedBy};
 
 use crate::command::Command;
 use crate::fault::ScriptFault;
@@ -50,6 +50,7 @@ pub fn run_exact<S: Source, K: Sink>(
 ) -> Result<(), Halt>
     ensures done { OnOk result (Answers (S.left source.old) (S.left source.new) (K.held sink.old) (K.held sink.new)) }
     ensures halt { IfErr result (IsHaltedBy (S.left source.old) (K.held sink.old) (K.held sink.new)) }
+    ensures small { IfErr result HasSmallLine }
     ensures untouched { IfErr result (λ halt. IsBeforeWriting halt → sink.new ≡ sink.old) }
     ensures taken { TakesAtMost (2 ^ 28 + 1) (S.left source.old) (S.left source.new) }
     ensures read { IfErr result (λ halt. halt ≡ Halt.Read → Rose (S.count source.old) (S.count source.new)) }
@@ -66,6 +67,7 @@ fn read_commands<S: Source>(alloc: Global, source: &mut S) -> Result<Vec<Command
     ensures ok { IfOk result (λ commands. IfSome (S.left source.old) (λ input. IsAtEnd (S.left source.new) × IsScript input commands.items)) }
     ensures one_length { IfOk result (λ commands. AreEqual (map places_in commands.items)) }
     ensures halt { IfErr result (HaltsReading (S.left source.old)) }
+    ensures small { IfErr result HasSmallLine }
     ensures taken { TakesAtMost (2 ^ 28 + 1) (S.left source.old) (S.left source.new) }
     ensures read { IfErr result (λ halt. halt ≡ Halt.Read → Rose (S.count source.old) (S.count source.new)) }
     ensures later { S.count source.old ≤ S.count source.new }
