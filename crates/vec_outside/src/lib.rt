@@ -3,7 +3,9 @@
 #![tactic(auto)]
 
 mod areas;
+mod crash;
 mod disks;
+mod draws;
 mod file_streams;
 mod mem_disks;
 mod mem_streams;
@@ -14,6 +16,7 @@ mod steps;
 mod streams;
 mod timeline;
 
+pub use crash::Choice;
 pub use disks::{Area, Disks};
 pub use file_streams::{FileSink, FileSource};
 pub use mem_disks::MemDisks;
