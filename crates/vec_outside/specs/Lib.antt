@@ -2,6 +2,7 @@ pub mod Areas
 pub mod Causes
 pub mod Crash
 pub mod Disk
+pub mod FileDisk
 pub mod FileStream
 pub mod MemDisk
 pub mod MemDisks
