@@ -2,7 +2,7 @@
 ghost use Rattle.std.specs.Prelude.{◌≡◌, ◌≢◌, ◌≤◌, ℕ, length, take, drop, vec_len, IfOk, OnOk, OnErr};
 ghost use Rattle.std.specs.Bool.{OnTrue, OnFalse};
 ghost use Rattle.vec_outside.specs.declared.disks.Area.{Area};
-ghost use Rattle.vec_outside.specs.Areas.{bytes_of};
+ghost use Rattle.vec_outside.specs.Areas.{bytes_of, is_same as same_area};
 ghost use Rattle.vec_outside.specs.Disk.{IsTorn, spliced};
 
 use crate::Area;
@@ -16,7 +16,7 @@ pub struct Areas {
 }
 
 // Writes over the bytes from a place on, and past the end.
-fn overwrite(area: &mut Vec<u8>, at: usize, bytes: &[u8]) -> Result<(), AllocError>
+pub fn overwrite(area: &mut Vec<u8>, at: usize, bytes: &[u8]) -> Result<(), AllocError>
     requires { at ≤ vec_len area.old }
     ensures ok { OnOk result (area.new.items ≡ spliced area.old.items at bytes.now) }
     ensures err { OnErr result (area.new.items ≡ area.old.items) }
@@ -42,6 +42,18 @@ pub fn replaced(alloc: Global, old: &[u8], at: usize, len: usize) -> Result<Vec<
     let end = at + n;
     let was = old[at..end].to_vec(alloc)?;
     Ok(was)
+}
+
+// Whether two areas are one.
+pub fn is_same(a: Area, b: Area) -> bool
+    ensures { result ≡ same_area a b }
+{
+    match (a, b) {
+        (Area::Pages, Area::Pages) => true,
+        (Area::Log0, Area::Log0) => true,
+        (Area::Log1, Area::Log1) => true,
+        _ => false,
+    }
 }
 
 impl Areas {

@@ -1,6 +1,8 @@
 // Three areas in memory. Each write and sync that was made is kept, the newest first, with the bytes that stood there.
 
 use crate::areas::Areas;
+use crate::crash::{Choice, left, seed_of};
+use crate::draws::Draws;
 use crate::plan::Plan;
 use crate::timeline::Timeline;
 use crate::{Area, Disks, Outage};
@@ -18,8 +20,9 @@ pub struct MemDisks {
 impl MemDisks {
     ghost use Rattle.std.specs.Prelude.{◌≡◌, IfOk, IfErr};
     ghost use Rattle.vec_outside.specs.Areas.{empty_image};
-    ghost use Rattle.vec_outside.specs.Disk.{IsDurable, image_of};
-    ghost use Rattle.vec_outside.specs.MemDisks.{mem_disk, mem_synced, disks_plan};
+    ghost use Rattle.vec_outside.specs.Crash.{IsChosen};
+    ghost use Rattle.vec_outside.specs.Disk.{IsDurable, IsImage, image_of};
+    ghost use Rattle.vec_outside.specs.MemDisks.{mem_disk, mem_synced, disks_plan, stopped};
     ghost use Rattle.vec_outside.specs.Planned.{fresh_plan, IsFreshPlan};
     ghost use Rattle.vec_outside.specs.declared.outage.Outage.TheVariants.{Memory};
     ghost use Rattle.vec_outside.specs.declared.disks.Area.{Area};
@@ -68,6 +71,32 @@ impl MemDisks {
         ensures { result.now ≡ (mem_disk self.now).seen area }
     {
         self.timeline.areas.bytes(area)
+    }
+
+    /// Lets every call with a number above `calls` fail too, counted from 1 since the object was made.
+    pub fn stop_after(&mut self, calls: u64)
+        ensures { self.new ≡ stopped self.old calls }
+    {
+        self.plan.stop = calls;
+    }
+
+    /// What a crash now leaves: one of the images that it may. There nothing is pending, no call is to fail and none was
+    /// made. It answers only `Memory`.
+    pub fn crash(&self, choice: Choice) -> Result<MemDisks, Outage>
+        ensures image { IfOk result (λ left. IsImage (mem_disk self.now) (mem_disk left).seen) }
+        ensures chosen { IfOk result (λ left. (area : Area) → IsChosen choice ((mem_disk self.now).seen area) (mem_synced self.now area) ((mem_disk left).seen area)) }
+        ensures durable { IfOk result (λ left. (area : Area) → IsDurable area (mem_disk left)) }
+        ensures synced { IfOk result (λ left. mem_synced left ≡ (mem_disk left).seen) }
+        ensures plan { IfOk result (λ left. IsFreshPlan (disks_plan left)) }
+        ensures err { IfErr result (λ outage. outage ≡ Memory) }
+    {
+        let mut draws = Draws::from_seed(seed_of(choice));
+        let line = &self.timeline;
+        let pages = left(self.alloc, line, Area::Pages, choice, &mut draws)?;
+        let log0 = left(self.alloc, line, Area::Log0, choice, &mut draws)?;
+        let log1 = left(self.alloc, line, Area::Log1, choice, &mut draws)?;
+        let fail = Vec::new(self.alloc);
+        Ok(MemDisks::over(self.alloc, pages, log0, log1, fail))
     }
 }
 
