@@ -11,6 +11,8 @@ mod outcome;
 mod replies;
 mod script;
 mod streams;
+#[cfg(test)]
+mod tests;
 mod top;
 mod words;
 
