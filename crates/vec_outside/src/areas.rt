@@ -69,9 +69,11 @@ impl Areas {
 
     fn overwrite(&mut self, area: Area, at: usize, bytes: &[u8]) -> Result<(), AllocError>
         requires { at ≤ length (bytes_of self.old area) }
-        ensures ok { OnOk result (bytes_of self.new area ≡ spliced (bytes_of self.old area) at bytes.now) }
+        ensures ok { OnOk result (bytes_of self.new area
+            ≡ spliced (bytes_of self.old area) at bytes.now) }
         ensures err { OnErr result (bytes_of self.new area ≡ bytes_of self.old area) }
-        ensures others { (other : Area) → other ≢ area → bytes_of self.new other ≡ bytes_of self.old other }
+        ensures others { (other : Area) → other ≢ area
+            → bytes_of self.new other ≡ bytes_of self.old other }
     {
         match area {
             Area::Pages => overwrite(&mut self.pages, at, bytes),
@@ -89,10 +91,14 @@ impl Areas {
         bytes: &[u8],
     ) -> Result<(), AllocError>
         requires { at ≤ length (bytes_of self.old area) }
-        ensures taken { OnOk result (OnTrue takes (bytes_of self.new area ≡ spliced (bytes_of self.old area) at bytes.now)) }
-        ensures failed { OnOk result (OnFalse takes (bytes_of self.new area ≡ bytes_of self.old area)) }
-        ensures torn { IsTorn at (length bytes.now) (bytes_of self.old area) (bytes_of self.new area) }
-        ensures others { (other : Area) → other ≢ area → bytes_of self.new other ≡ bytes_of self.old other }
+        ensures taken { OnOk result (OnTrue takes (bytes_of self.new area
+            ≡ spliced (bytes_of self.old area) at bytes.now)) }
+        ensures failed { OnOk result (OnFalse takes (bytes_of self.new area
+            ≡ bytes_of self.old area)) }
+        ensures torn { IsTorn at (length bytes.now) (bytes_of self.old area)
+            (bytes_of self.new area) }
+        ensures others { (other : Area) → other ≢ area
+            → bytes_of self.new other ≡ bytes_of self.old other }
     {
         if takes {
             return self.overwrite(area, at, bytes);

@@ -18,8 +18,8 @@ pub enum Choice {
     Kept,
     /// What the last syncs left.
     Lost,
-    /// Of each write since then all, nothing, or some of its bytes and of its length, as drawn from this seed. A write
-    /// that failed is among them.
+    /// Of each write since then all, nothing, or some of its bytes and of its length, as drawn from
+    /// this seed. A write that failed is among them.
     Mixed(u64),
 }
 
@@ -31,7 +31,8 @@ pub fn seed_of(choice: Choice) -> u64 {
     }
 }
 
-/// An area as its last sync left it, and for each call since then, the newest first, what it wrote there.
+/// An area as its last sync left it, and for each call since then, the newest first, what it wrote
+/// there.
 #[derive(Drop)]
 struct Back {
     bytes: Vec<u8>,
@@ -46,7 +47,8 @@ fn unwrite(
     len: usize,
     was: &[u8],
 ) -> Result<(), AllocError>
-    ensures { OnOk result (bytes.new.items ≡ take at bytes.old.items ++ was.now ++ drop (at + len) bytes.old.items) }
+    ensures { OnOk result (bytes.new.items
+        ≡ take at bytes.old.items ++ was.now ++ drop (at + len) bytes.old.items) }
 {
     if at <= bytes.len() && was.len() == len {
         return overwrite(bytes, at, was);
@@ -85,7 +87,8 @@ fn is_sync_of(call: &Call, area: Area) -> bool
     }
 }
 
-// What a call wrote into an area that reads as these bytes after it, or would have written, had it not failed.
+// What a call wrote into an area that reads as these bytes after it, or would have written, had it
+// not failed.
 fn piece_of(alloc: Global, call: &Call, area: Area, now: &[u8]) -> Result<Vec<u8>, AllocError> {
     match call {
         Call::Wrote(write) => {
@@ -108,7 +111,8 @@ fn piece_of(alloc: Global, call: &Call, area: Area, now: &[u8]) -> Result<Vec<u8
 // Goes back to the last sync of an area, or to its start.
 fn go_back(alloc: Global, line: &Timeline, area: Area) -> Result<Back, AllocError>
     ensures within { IfOk result (λ back. vec_len back.pieces ≤ length line.now.done.items) }
-    ensures undone { IfOk result (λ back. UndoneBy area (bytes_of line.now.areas area) (take (vec_len back.pieces) line.now.done.items) back.bytes.items) }
+    ensures undone { IfOk result (λ back. UndoneBy area (bytes_of line.now.areas area)
+        (take (vec_len back.pieces) line.now.done.items) back.bytes.items) }
     ensures synced { IfOk result (λ back. back.bytes.items ≡ synced_image line.now area) }
 {
     let mut bytes = line.areas.bytes(area).to_vec(alloc)?;
@@ -224,7 +228,8 @@ pub fn left(
     draws: &mut Draws,
 ) -> Result<Vec<u8>, AllocError>
     ensures leaves { IfOk result (λ bytes. (timeline_disk line.now).leaves area bytes.items) }
-    ensures chosen { IfOk result (λ bytes. IsChosen choice (bytes_of line.now.areas area) (synced_image line.now area) bytes.items) }
+    ensures chosen { IfOk result (λ bytes. IsChosen choice (bytes_of line.now.areas area)
+        (synced_image line.now area) bytes.items) }
 {
     match choice {
         Choice::Kept => {

@@ -4,9 +4,9 @@ use crate::files::OpenFiles;
 use crate::{Area, Disks, Outage};
 use std::io;
 
-/// The areas as the files `vec_pages.dat`, `vec_log0.dat` and `vec_log1.dat` of the current folder. A file is opened at the
-/// first call that needs it, made where there is none, and then stays open; a log that is made has 40 zero bytes. Each call
-/// is one of the system's, at its own place.
+/// The areas as the files `vec_pages.dat`, `vec_log0.dat` and `vec_log1.dat` of the current folder.
+/// A file is opened at the first call that needs it, made where there is none, and then stays open;
+/// a log that is made has 40 zero bytes. Each call is one of the system's, at its own place.
 #[derive(Drop)]
 pub struct FileDisks {
     rt: HostRuntime,

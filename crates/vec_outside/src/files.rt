@@ -42,7 +42,8 @@ fn name_of(area: Area) -> &'static str {
     }
 }
 
-// Gives a new file what its area begins with, and makes both the file and its name in the folder durable.
+// Gives a new file what its area begins with, and makes both the file and its name in the folder
+// durable.
 fn begin(rt: &HostRuntime, area: Area, file: &File) -> io::Result<()> {
     if area != Area::Pages {
         file.write_all_at(&[0; BLANK], 0)?;
@@ -52,7 +53,8 @@ fn begin(rt: &HostRuntime, area: Area, file: &File) -> io::Result<()> {
     folder.sync_all()
 }
 
-// Makes the file of an area. One that can't be made whole is taken away again, so that the next call makes it anew.
+// Makes the file of an area. One that can't be made whole is taken away again, so that the next
+// call makes it anew.
 fn make(rt: &HostRuntime, area: Area) -> io::Result<File> {
     let file = File::create_new(rt, name_of(area))?;
     match begin(rt, area, &file) {
@@ -75,7 +77,8 @@ fn open(rt: &HostRuntime, area: Area) -> io::Result<File> {
         Err(error) if error.kind() == ErrorKind::NotFound => make(rt, area)?,
         Err(error) => return Err(error),
     };
-    // Where a standard stream was closed, a file may get its number, and what is meant for the stream.
+    // Where a standard stream was closed, a file may get its number, and what is meant for the
+    // stream.
     if file.as_raw_fd() <= 2 {
         return file.try_clone();
     }
@@ -143,7 +146,8 @@ impl OpenFiles {
         }
     }
 
-    /// Writes all of `bytes`, or fails where the file is shorter than `at`, or the system takes none of a piece.
+    /// Writes all of `bytes`, or fails where the file is shorter than `at`, or the system takes
+    /// none of a piece.
     pub fn write_at(
         &mut self,
         rt: &HostRuntime,

@@ -1,5 +1,6 @@
-//! What the program meets outside itself: a source and a sink of bytes, three areas of a disk, and the pace of its
-//! workers. Each has a version in memory, whose bytes and faults contracts name, and a thin one over the system.
+//! What the program meets outside itself: a source and a sink of bytes, three areas of a disk, and
+//! the pace of its workers. Each has a version in memory, whose bytes and faults contracts name,
+//! and a thin one over the system.
 #![tactic(auto)]
 
 mod areas;

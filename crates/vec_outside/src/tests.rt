@@ -56,7 +56,8 @@ struct Row {
     lost: &'static [u8],
     /// How many seeds are tried.
     seeds: u64,
-    /// Every image of the pages, and of the first log: in each range written each byte new, old, or past the old end 0.
+    /// Every image of the pages, and of the first log: in each range written each byte new, old, or
+    /// past the old end 0.
     images: (usize, usize),
 }
 
@@ -272,6 +273,8 @@ fn files_and_standard_streams(rt: HostRuntime) -> Result<(), Fail> {
     fs::remove_dir(&rt, "vec_pages.dat")?;
     fs::remove_file(&rt, "vec_log0.dat")?;
 
+    // A test has nothing on its standard input.
+    assert_eq!(rt; FileSource::make(&rt).read(&mut back)?, 0);
     assert_eq!(rt; FileSource::make(&rt).read(&mut [])?, 0);
     let mut sink = FileSink::make(&rt);
     assert_eq!(rt; sink.write(b"")?, 0);

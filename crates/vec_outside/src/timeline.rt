@@ -1,5 +1,6 @@
-// Three areas in memory, with each write and sync that was made, the newest first, and the bytes that a write took the
-// place of: so what every moment might have left can be told, and a write costs its piece.
+// Three areas in memory, with each write and sync that was made, the newest first, and the bytes
+// that a write took the place of: so what every moment might have left can be told, and a write
+// costs its piece.
 ghost use Rattle.std.specs.Prelude.{◌≡◌, ◌≢◌, ◌+◌, ◌≤◌, [], ◌∷◌, ◌++◌, List, ℕ, IsTrue, IsErr, length, take, drop, Vec, IfOk, OnOk, OnErr};
 ghost use Rattle.std.specs.Bool.{OnTrue, OnFalse};
 ghost use Rattle.vec_outside.specs.Disk.{Elapses, IsKept, IsTorn, IsWritten, IsDurable, spliced};
@@ -89,10 +90,14 @@ impl Timeline {
         takes: bool,
     ) -> Result<(), AllocError>
         requires { at ≤ length (bytes_of self.old.areas area) }
-        ensures taken { OnOk result (OnTrue takes (bytes_of self.new.areas area ≡ spliced (bytes_of self.old.areas area) at bytes.now)) }
-        ensures failed { OnOk result (OnFalse takes (bytes_of self.new.areas area ≡ bytes_of self.old.areas area)) }
-        ensures written { IsWritten area at (length bytes.now) (timeline_disk self.old) (timeline_disk self.new) }
-        ensures pending { OnOk result (IsPending area at (length bytes.now) (timeline_disk self.old) (timeline_disk self.new)) }
+        ensures taken { OnOk result (OnTrue takes (bytes_of self.new.areas area
+            ≡ spliced (bytes_of self.old.areas area) at bytes.now)) }
+        ensures failed { OnOk result (OnFalse takes (bytes_of self.new.areas area
+            ≡ bytes_of self.old.areas area)) }
+        ensures written { IsWritten area at (length bytes.now) (timeline_disk self.old)
+            (timeline_disk self.new) }
+        ensures pending { OnOk result (IsPending area at (length bytes.now)
+            (timeline_disk self.old) (timeline_disk self.new)) }
         ensures synced { (each : Area) → synced_image self.new each ≡ synced_image self.old each }
         ensures time { Elapses (timeline_disk self.old) (timeline_disk self.new) }
     {
@@ -107,7 +112,8 @@ impl Timeline {
         ensures durable { OnOk result (IsDurable area (timeline_disk self.new)) }
         ensures kept { IsKept (timeline_disk self.old) (timeline_disk self.new) }
         ensures synced { OnOk result (synced_image self.new area ≡ bytes_of self.old.areas area) }
-        ensures other_synced { (other : Area) → other ≢ area → synced_image self.new other ≡ synced_image self.old other }
+        ensures other_synced { (other : Area) → other ≢ area
+            → synced_image self.new other ≡ synced_image self.old other }
         ensures err { OnErr result (self.new.done.items ≡ self.old.done.items) }
         ensures time { Elapses (timeline_disk self.old) (timeline_disk self.new) }
     {
