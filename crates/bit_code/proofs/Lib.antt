@@ -1,3 +1,4 @@
 mod PackedPlaces
 mod PackedTexts
+mod PlaceParts
 mod UnequalBytes

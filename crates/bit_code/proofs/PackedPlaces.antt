@@ -195,7 +195,7 @@ pub places_none : (n : ℕ) → places 0 n ≡ []
 unfolding places
 places_none n = refl
 
-unpacked-one : (b : ℕ) → unpacked (b ∷ []) ≡ places 8 b
+pub unpacked-one : (b : ℕ) → unpacked (b ∷ []) ≡ places 8 b
 unfolding unpacked
 unpacked-one b = append-nil (places 8 b)
 

@@ -1,9 +1,11 @@
 // The packed value.
 ghost use Rattle.std.specs.Prelude.{◌≡◌, ◌<◌, ◌≤◌, IfOk, IfErr, length, IsTrue, slice_get, Some};
-ghost use Rattle.bit_code.specs.Places.{packed, places};
+ghost use Rattle.std.specs.Prelude.{take};
+ghost use Rattle.bit_code.specs.Places.{packed, places, unpacked, Packed};
 ghost use Rattle.bit_code.specs.declared.fault.BitsFault.TheVariants.{Memory};
 
 use crate::BitsFault;
+use std::alloc::Global;
 use std::marker::Model;
 
 /// A value of 1 to 64,000 places, each 0 or 1. Contracts see it as the list of its places.
@@ -30,6 +32,18 @@ impl Model for Bits {
 impl Bits {
     /// The greatest number of places.
     pub const MOST: u32 = 64_000;
+
+    /// The value of `count` places whose packed bytes these are. `is_packed` tells whether a count and bytes may be passed.
+    /// Only memory can be wanting.
+    pub fn from_bytes(alloc: Global, count: u32, bytes: &[u8]) -> Result<Bits, BitsFault>
+        requires { Packed count bytes.now }
+        ensures value { IfOk result (λ b. b ≡ take count (unpacked bytes.now)) }
+        ensures bytes { IfOk result (λ b. packed b ≡ bytes.now) }
+        ensures memory { IfErr result (λ e. e ≡ BitsFault.Memory) }
+    {
+        let bytes = Vec::from_slice(alloc, bytes)?;
+        Ok(Bits { count, bytes })
+    }
 
     /// An equal value. Only memory can be wanting.
     pub fn try_clone(&self) -> Result<Bits, BitsFault>

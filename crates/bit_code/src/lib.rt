@@ -4,9 +4,11 @@
 mod bits;
 mod counts;
 mod fault;
+mod packing;
 mod texts;
 
 pub use bits::Bits;
 pub use counts::count_unequal;
 pub use fault::BitsFault;
+pub use packing::is_packed;
 pub use texts::read_bits;
