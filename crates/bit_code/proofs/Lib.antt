@@ -1,3 +1,4 @@
+mod ChangedPlaces
 mod PackedPlaces
 mod PackedTexts
 mod PlaceParts

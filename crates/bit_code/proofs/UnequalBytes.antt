@@ -214,6 +214,10 @@ unequal_packed k xs ys e h px py =
 pub length_view : (k : ℕ) (xs : List ℕ) → k ≤ 8 * length xs → length (take k (unpacked xs)) ≡ k
 length_view k xs h = let hx : k ≤ length (unpacked xs) = omega (arith, length-unpacked xs, h) in length-take-le k (unpacked xs) hx
 
+-- a value has as many places as its count says
+pub view_count : (c : ℕ) (bs : List ℕ) (xs : List Bool) → take c (unpacked bs) ≡ xs → Packed c bs → length xs ≡ c
+view_count c bs xs view kept = ap (λ (ys : List Bool). length ys) (sym view) ∙ length_view c bs (omega (arith, kept.long))
+
 pub unequal_views : (p q r : ℕ) (xs ys us vs : List ℕ) (places_a places_b : List Bool) → take p (unpacked xs) ≡ places_a → take q (unpacked ys) ≡ places_b → length places_a ≡ length places_b → Packed p xs → Packed q ys → us ≡ xs → vs ≡ ys
     → r ≡ unequal (unpacked us) (unpacked vs) → r ≡ unequal places_a places_b
 unequal_views p q r xs ys us vs places_a places_b va vb same hx hy eu ev er =
