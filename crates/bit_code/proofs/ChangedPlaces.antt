@@ -7,7 +7,7 @@ use Rattle.std.proofs.Math.Seq.{take-set-lt}
 use Rattle.std.proofs.lemmas.Nat.{xor_shr, xor_mod, pow_pos, div-mul-add, mod-mul-add}
 use Rattle.std.proofs.lemmas.List.{take_at, take-replicate, drop-replicate, drop-set-lt, length-set, length-replicate, replicate-append-replicate, set_at, set-append_left, set-append_right}
 use Rattle.bit_code.specs.Places.{places, unpacked, Packed}
-use Rattle.bit_code.proofs.UnequalBytes.{length-places, view_count}
+use Rattle.bit_code.proofs.TalliedBytes.{length-places, view_count}
 use Rattle.bit_code.proofs.PackedPlaces.{slice_get-places, get_or_default}
 use Rattle.bit_code.proofs.PlaceParts.{places-split, places-zero, low-places}
 

@@ -2,4 +2,4 @@ mod ChangedPlaces
 mod PackedPlaces
 mod PackedTexts
 mod PlaceParts
-mod UnequalBytes
+mod TalliedBytes

@@ -6,8 +6,8 @@ use Rattle.std.proofs.Math.Seq.{drop-nil, drop-append_seam}
 use Rattle.std.proofs.lemmas.Nat.{shr-shr, shr_below}
 use Rattle.std.proofs.lemmas.List.{append-nil, take-append-drop, take_at}
 use Rattle.std.proofs.lemmas.Bool.{cases_lt}
-use Rattle.bit_code.specs.Places.{places, unpacked, digit_of, number_of, packed_in, packed, Packed, Packs}
-use Rattle.bit_code.proofs.UnequalBytes.{length-places, unpacked-append, view_count}
+use Rattle.bit_code.specs.Places.{places, unpacked, digit_of, number_of, packed_in, packed, Packed, Packs, tally, one_if_both, ones}
+use Rattle.bit_code.proofs.TalliedBytes.{length-places, unpacked-append, view_count}
 
 -- ---- numbers and their digits
 
@@ -206,3 +206,11 @@ unpacked_none = refl
 -- one byte more
 pub unpacked-push : (bs : List ℕ) (b : ℕ) (xs ys : List Bool) → unpacked bs ≡ xs → places 8 b ≡ ys → unpacked (bs ++ b ∷ []) ≡ xs ++ ys
 unpacked-push bs b xs ys so_far here = unpacked-append bs (b ∷ []) ∙ ap₂ (λ (us vs : List Bool). us ++ vs) so_far (unpacked-one b ∙ here)
+
+-- ---- counting
+
+pub both-self : (xs : List Bool) → tally one_if_both xs xs ≡ ones xs
+unfolding tally ones
+both-self [] = refl
+both-self (false ∷ xs) = ap (λ (n : ℕ). 0 + n) (both-self xs)
+both-self (true ∷ xs) = ap (λ (n : ℕ). 1 + n) (both-self xs)

@@ -4,7 +4,7 @@ use Rattle.std.specs.Prelude.{Bool, false, ◌==◌, replicate}
 use Rattle.std.proofs.lemmas.Nat.{shr-shr, mod-pow-add, pow_pos, mod_below, mod-mul-add}
 use Rattle.std.proofs.lemmas.List.{drop_at, drop-drop, drop_all, drop_more, take-append-drop, length-take-le, append-nil, replicate_more}
 use Rattle.bit_code.specs.Places.{places, unpacked, number_of}
-use Rattle.bit_code.proofs.UnequalBytes.{length-places, length-unpacked, unpacked-append}
+use Rattle.bit_code.proofs.TalliedBytes.{length-places, length-unpacked, unpacked-append}
 use Rattle.bit_code.proofs.PackedPlaces.{number_of-places, unpacked-one}
 
 -- the high k of s + k digits, and then the low s

@@ -8,7 +8,7 @@ mod packing;
 mod texts;
 
 pub use bits::Bits;
-pub use counts::count_unequal;
+pub use counts::{count_both, count_ones, count_unequal};
 pub use fault::BitsFault;
 pub use packing::is_packed;
 pub use texts::read_bits;

@@ -1,5 +1,5 @@
 use Rattle.std.proofs.Common.{sym}
-use Rattle.bit_code.proofs.UnequalBytes.{view_count}
+use Rattle.bit_code.proofs.TalliedBytes.{view_count}
 use Rattle.bit_code.proofs.bits.Bits.count.Goals as goal
 
 pub returns-clause-count : goal.returns-clause-count

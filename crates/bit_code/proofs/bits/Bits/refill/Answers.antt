@@ -1,6 +1,6 @@
 use Rattle.std.proofs.Common.{arith, rules, ap, sym, subst, refl, ◌∙◌, ◌≡◌, ◌<◌, ◌++◌, ℕ, List, length, get_or, take, drop}
 use Rattle.bit_code.specs.Places.{packed, unpacked, Packed}
-use Rattle.bit_code.proofs.UnequalBytes.{view_count}
+use Rattle.bit_code.proofs.TalliedBytes.{view_count}
 use Rattle.bit_code.proofs.PackedPlaces.{packed_view}
 use Rattle.bit_code.proofs.ChangedPlaces.{taken_over}
 use Rattle.bit_code.proofs.bits.Bits.refill.Goals as goal
