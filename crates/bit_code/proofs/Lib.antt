@@ -1,4 +1,5 @@
 mod ChangedPlaces
+pub mod ExactPacking
 mod PackedPlaces
 mod PackedTexts
 mod PlaceParts

@@ -10,5 +10,5 @@ mod texts;
 pub use bits::Bits;
 pub use counts::{count_both, count_ones, count_unequal};
 pub use fault::BitsFault;
-pub use packing::is_packed;
+pub use packing::{is_packed, packing_is_exact};
 pub use texts::read_bits;

@@ -1,6 +1,6 @@
 // Which counts and bytes are packed values.
-ghost use Rattle.std.specs.Prelude.{◌≡◌, ◌+◌, ◌*◌, ◌-◌, ◌/◌, ◌%◌, ◌^◌, ◌≤◌, ◌<◌, ◌↔◌, IsTrue, false, drop, length, replicate};
-ghost use Rattle.bit_code.specs.Places.{places, unpacked, Packed};
+ghost use Rattle.std.specs.Prelude.{◌≡◌, ◌+◌, ◌*◌, ◌-◌, ◌/◌, ◌%◌, ◌^◌, ◌≤◌, ◌<◌, ◌↔◌, IsTrue, ℕ, List, Bool, All, false, drop, length, replicate, take};
+ghost use Rattle.bit_code.specs.Places.{places, unpacked, packed, Packed};
 
 use crate::Bits;
 
@@ -18,6 +18,18 @@ pub fn is_packed(count: u32, bytes: &[u8]) -> bool
     }
     has_clear_end(count, bytes)
 }
+
+/// The law of packing, which holds of any places; a call does nothing. Packed bytes are one for each eight places or part of
+/// eight, each a byte, with unused bits 0; they give the places back, so that two values of one count with the same bytes are
+/// one; and packed bytes are the bytes of the value that they give.
+pub fn packing_is_exact()
+    ensures long { (xs : List Bool) → length (packed xs) ≡ (length xs + 7) / 8 }
+    ensures bytes { (xs : List Bool) → All (λ b. b < 256) (packed xs) }
+    ensures kept { (xs : List Bool) → 1 ≤ length xs → length xs ≤ 64000 → Packed (length xs) (packed xs) }
+    ensures back { (xs : List Bool) → take (length xs) (unpacked (packed xs)) ≡ xs }
+    ensures same { (xs ys : List Bool) → length xs ≡ length ys → packed xs ≡ packed ys → xs ≡ ys }
+    ensures whole { (count : ℕ) (bytes : List ℕ) → Packed count bytes → All (λ b. b < 256) bytes → packed (take count (unpacked bytes)) ≡ bytes }
+{}
 
 // Whether the bits after the last place are 0.
 fn has_clear_end(count: u32, bytes: &[u8]) -> bool
