@@ -12,3 +12,6 @@ pub use counts::{count_both, count_ones, count_unequal};
 pub use fault::BitsFault;
 pub use packing::{is_packed, packing_is_exact};
 pub use texts::read_bits;
+
+#[cfg(test)]
+mod tests;
