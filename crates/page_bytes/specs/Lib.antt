@@ -1,0 +1,4 @@
+pub mod Content
+pub mod Spelling
+pub mod Decoding
+pub mod Splice

@@ -1,0 +1,13 @@
+//! Pages of 8,192 bytes, laid out as PostgreSQL does: a header, line pointers, items that grow down from the
+//! end, and a special space of 8 bytes.
+//!
+//! A page is seen as its kind, a next block or none, the number of the last event that changed it, and a list
+//! of items. Each such content that fits has one spelling, and other bytes are no page.
+#![tactic(auto)]
+
+mod bytes;
+mod kind;
+mod page;
+
+pub use kind::PageKind;
+pub use page::Page;
