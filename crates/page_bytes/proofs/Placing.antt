@@ -1,5 +1,5 @@
 -- Where the parts of a page lie.
-use Rattle.std.proofs.Common.{◌≡◌, ℕ, zero, suc, ◌+◌, ◌-◌, ◌*◌, ◌/◌, ◌%◌, ◌^◌, ◌<◌, ◌≤◌, List, [], ◌∷◌, ◌++◌, length, get_or, take, drop, replicate, refl, sym, ap, ◌∙◌, arith, append_assoc}
+use Rattle.std.proofs.Common.{◌≡◌, ℕ, zero, suc, ◌+◌, ◌-◌, ◌*◌, ◌/◌, ◌%◌, ◌^◌, ◌<◌, ◌≤◌, List, [], ◌∷◌, ◌++◌, Some, slice_get, length, get_or, take, drop, replicate, refl, sym, ap, ◌∙◌, arith, append_assoc}
 use Rattle.std.specs.Int.{w16, w32, w64, to_le_bytes}
 use Rattle.std.specs.List.{sum_by}
 use Rattle.std.proofs.lemmas.List.{append-nil, take_at, drop_at, drop-drop, length-append, length-replicate, take-append-drop}
@@ -149,3 +149,37 @@ unfolding items_at
 items_at-lies bytes at top [] l = refl
 items_at-lies bytes at top (x ∷ xs) l =
     rw (lies_named bytes at top x xs l, items_at-lies bytes (at + 4) (top - round8 (length x)) xs (lies_next bytes at top x xs l)) refl
+
+-- what a word says of the item that it names, the one at a place of the list
+pub record Points (bytes : List ℕ) (top : ℕ) (items : List (List ℕ)) (i word : ℕ) (x : List ℕ) : Type 0 where
+  pub there : slice_get items i ≡ Some x
+  pub named : named_by bytes word ≡ x
+  pub len : word / 2 ^ 17 ≡ length x
+  pub place : word % 2 ^ 15 + round8 (length x) + taken (take i items) ≡ top
+
+pub lies_points : (bytes : List ℕ) (at top : ℕ) (x : List ℕ) (xs : List (List ℕ)) → Lies bytes at top (x ∷ xs) → Points bytes top (x ∷ xs) 0 (word_at bytes at) x
+lies_points bytes at top x xs l =
+    let t = taken-cons x xs in
+    let r = rounds (length x) in
+    let w = lies_word bytes at top x xs l in
+    record {
+      there = refl;
+      named = lies_named bytes at top x xs l;
+      len = omega (arith, l.place, l.within, r.above);
+      place = omega (arith, l.place, l.within, r.above, taken-nil);
+    }
+
+pub points : (bytes : List ℕ) (at top : ℕ) (items : List (List ℕ)) (i : ℕ) → Lies bytes at top items → i < length items → Points bytes top items i (word_at bytes (at + 4 * i)) (get_or items i [])
+points bytes at top [] i l h = absurd (omega arith)
+points bytes at top (x ∷ xs) zero l h =
+    let e : at + 4 * 0 ≡ at = omega arith in rw e (lies_points bytes at top x xs l)
+points bytes at top (x ∷ xs) (suc i) l h =
+    let p = points bytes (at + 4) (top - round8 (length x)) xs i (lies_next bytes at top x xs l) (omega arith) in
+    let e : at + 4 + 4 * i ≡ at + 4 * suc i = omega arith in
+    let q = rw e at p in
+    record {
+      there = q.there;
+      named = q.named;
+      len = q.len;
+      place = omega (arith, q.place, l.place, taken-cons x xs, taken-cons x (take i xs));
+    }

@@ -1,14 +1,14 @@
 -- A spelling shows the content that it spells.
-use Rattle.std.proofs.Common.{◌≡◌, ℕ, zero, suc, ◌+◌, ◌-◌, ◌*◌, ◌/◌, ◌%◌, ◌^◌, ◌<◌, ◌≤◌, List, [], ◌∷◌, ◌++◌, Option, Some, None, length, get_or, take, drop, replicate, refl, sym, ap, ◌∙◌, subst, arith, append_assoc}
+use Rattle.std.proofs.Common.{◌≡◌, ℕ, zero, suc, ◌+◌, ◌-◌, ◌*◌, ◌/◌, ◌%◌, ◌^◌, ◌<◌, ◌≤◌, List, [], ◌∷◌, ◌++◌, Option, Some, None, slice_get, length, get_or, take, drop, replicate, refl, sym, ap, ◌∙◌, subst, arith, append_assoc}
 use Rattle.std.specs.Int.{w16, w32, w64, to_le_bytes}
 use Rattle.std.proofs.lemmas.List.{append-nil, take_at, drop_at, drop-drop, length-append, length-replicate, take-append-drop}
-use Rattle.page_bytes.specs.Content.{Content, IsPage, IsNext, round8, taken, lower_of, upper_of}
+use Rattle.page_bytes.specs.Content.{Content, IsPage, IsNext, round8, taken, lower_of, upper_of, item_at}
 use Rattle.page_bytes.specs.Spelling.{zeros, header, line_pointer, line_pointers, padded, stacked, special, spelling, next_word, kind_word}
 use Rattle.page_bytes.specs.Decoding.{half_at, word_at, long_at, named_by, items_at, next_from, kind_from, content, Spells, IsSpelled}
 use Rattle.page_bytes.specs.declared.kind.PageKind.{PageKind}
 use Rattle.page_bytes.specs.declared.kind.PageKind.TheVariants.{Meta, Hnsw, IvfLists, IvfEntries}
 use Rattle.page_bytes.proofs.Numbers.{half_at-append, word_at-append, half_at-bytes, word_at-bytes, long_at-bytes}
-use Rattle.page_bytes.proofs.Placing.{length-line_pointers, length-stacked, Lies, items_at-lies}
+use Rattle.page_bytes.proofs.Placing.{Rounds, rounds, length-line_pointers, length-stacked, Lies, items_at-lies, Points, points}
 
 pub length-header : (number lower upper : ℕ) → length (header number lower upper) ≡ 24
 unfolding header
@@ -18,7 +18,7 @@ pub length-special : (next : Option ℕ) (kind : PageKind) → length (special n
 unfolding special
 length-special next kind = refl
 
-pub header_of : Content → List ℕ
+unfoldable pub header_of : Content → List ℕ
 header_of p = header p.number (lower_of p.items) (upper_of p.items)
 
 length-header_of : (p : Content) → length (header_of p) ≡ 24
@@ -26,7 +26,7 @@ unfolding header_of
 length-header_of p = length-header _ _ _
 
 -- the spelling up to the special space
-pub front : Content → List ℕ
+unfoldable pub front : Content → List ℕ
 front p = header_of p ++ (line_pointers 8184 p.items ++ (zeros (upper_of p.items - lower_of p.items) ++ stacked p.items))
 
 pub spelling-front : (p : Content) → spelling p ≡ front p ++ special p.next p.kind
@@ -136,3 +136,69 @@ spelled bytes p s = ap content s.same ∙ content-spelling p s.page
 
 pub IsSpelled-from : (bytes : List ℕ) (p : Content) → Spells bytes p → IsSpelled bytes
 IsSpelled-from bytes p s = subst (λ (q : Content). Spells bytes q) (sym (spelled bytes p s)) s
+
+-- ---- what a page's bytes show
+
+pub lower_is : (bytes : List ℕ) → IsSpelled bytes → half_at bytes 12 ≡ 24 + 4 * length (content bytes).items
+lower_is bytes s = ap (λ (b : List ℕ). half_at b 12) s.same ∙ lower_shown (content bytes) s.page
+
+pub upper_is : (bytes : List ℕ) → IsSpelled bytes → half_at bytes 14 + taken (content bytes).items ≡ 8184
+upper_is bytes s =
+    let e : half_at bytes 14 ≡ upper_of (content bytes).items = ap (λ (b : List ℕ). half_at b 14) s.same ∙ upper_shown (content bytes) s.page in
+    omega (arith, s.page.room)
+
+pub lies_is : (bytes : List ℕ) → IsSpelled bytes → Lies bytes 24 8184 (content bytes).items
+lies_is bytes s = subst (λ (b : List ℕ). Lies b 24 8184 (content bytes).items) (sym s.same) (lies_in (content bytes) s.page)
+
+-- ---- one item, by its offset
+
+pub item_points : (bytes : List ℕ) (off : ℕ) → IsSpelled bytes → 0 < off → off ≤ length (content bytes).items → Points bytes 8184 (content bytes).items (off - 1) (word_at bytes (20 + 4 * off)) (get_or (content bytes).items (off - 1) [])
+item_points bytes off s low high =
+    let e : 24 + 4 * (off - 1) ≡ 20 + 4 * off = omega arith in
+    rw e at (points bytes 24 8184 (content bytes).items (off - 1) (lies_is bytes s) (omega arith))
+
+pub item_within : (bytes : List ℕ) (off : ℕ) → IsSpelled bytes → 0 < off → off ≤ length (content bytes).items → word_at bytes (20 + 4 * off) % 2 ^ 15 + word_at bytes (20 + 4 * off) / 2 ^ 17 ≤ 8184
+item_within bytes off s low high =
+    let p = item_points bytes off s low high in
+    let r = rounds (length (get_or (content bytes).items (off - 1) [])) in
+    omega (arith, p.len, p.place, r.above)
+
+item_at-get : (items : List (List ℕ)) (off : ℕ) → 0 < off → item_at items off ≡ slice_get items (off - 1)
+item_at-get items zero h = absurd (omega arith)
+item_at-get items (suc i) h = let e : suc i - 1 ≡ i = omega arith in rw e refl
+
+pub item_shown : (bytes : List ℕ) (off : ℕ) → IsSpelled bytes → 0 < off → off ≤ length (content bytes).items → Some (named_by bytes (word_at bytes (20 + 4 * off))) ≡ item_at (content bytes).items off
+item_shown bytes off s low high =
+    let p = item_points bytes off s low high in
+    ap Some p.named ∙ sym p.there ∙ sym (item_at-get (content bytes).items off low)
+
+past : (items : List (List ℕ)) (i : ℕ) → length items ≤ i → slice_get items i ≡ None
+past [] i h = refl
+past (x ∷ xs) zero h = absurd (omega arith)
+past (x ∷ xs) (suc i) h = past xs i (omega arith)
+
+pub no_item : (items : List (List ℕ)) (off : ℕ) → length items < off → item_at items off ≡ None
+no_item items zero h = refl
+no_item items (suc i) h = past items i (omega arith)
+
+-- ---- bytes after a change, which are b, which is the spelling of q
+
+moved : (bytes b : List ℕ) (q : Content) → bytes ≡ b → Spells b q → Spells bytes q
+moved bytes b q e s = subst (λ (t : List ℕ). Spells t q) (sym e) s
+
+pub page_after : (bytes b : List ℕ) (q : Content) → bytes ≡ b → Spells b q → IsSpelled bytes
+page_after bytes b q e s = IsSpelled-from bytes q (moved bytes b q e s)
+
+pub content_after : (bytes b : List ℕ) (q : Content) → bytes ≡ b → Spells b q → content bytes ≡ q
+content_after bytes b q e s = spelled bytes q (moved bytes b q e s)
+
+-- ---- the ends of a page that is seen as p
+
+pub record Ends (bytes : List ℕ) (p : Content) : Type 0 where
+  pub lower : half_at bytes 12 ≡ 24 + 4 * length p.items
+  pub upper : half_at bytes 14 + taken p.items ≡ 8184
+  pub room : taken p.items + 4 * length p.items ≤ 8160
+
+pub ends : (bytes : List ℕ) (p : Content) → IsSpelled bytes → content bytes ≡ p → Ends bytes p
+ends bytes p s e =
+    subst (Ends bytes) e (record { lower = lower_is bytes s; upper = upper_is bytes s; room = s.page.room })

@@ -1,7 +1,7 @@
 //! Numbers within bytes, their low byte first.
 
-ghost use Rattle.std.specs.Prelude.{◌≡◌, ◌+◌, ◌≤◌, length};
-ghost use Rattle.page_bytes.specs.Decoding.{half_at, word_at, long_at};
+ghost use Rattle.std.specs.Prelude.{◌≡◌, ◌+◌, ◌/◌, ◌%◌, ◌^◌, ◌≤◌, length};
+ghost use Rattle.page_bytes.specs.Decoding.{half_at, word_at, long_at, named_by};
 ghost use Rattle.page_bytes.specs.Splice.{spliced};
 
 #[tactic(auto, unfolding(crate::specs::Decoding::half_at))]
@@ -35,4 +35,15 @@ pub fn put(bytes: &mut [u8], at: usize, part: &[u8])
     ensures { bytes.new ≡ spliced bytes.old at part.now }
 {
     bytes[at..at + part.len()].copy_from_slice(part);
+}
+
+/// The item that a line pointer names.
+#[tactic(auto, unfolding(crate::specs::Decoding::named_by))]
+pub fn named(bytes: &[u8], pointer: u32) -> &[u8]
+    requires { pointer % 2 ^ 15 + pointer / 2 ^ 17 ≤ length bytes.now }
+    ensures { result.now ≡ named_by bytes.now pointer }
+{
+    let place = (pointer % 0x8000) as usize;
+    let len = (pointer / 0x2_0000) as usize;
+    &bytes[place..place + len]
 }

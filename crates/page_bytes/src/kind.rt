@@ -1,4 +1,5 @@
 ghost use Rattle.std.specs.Prelude.{◌≡◌};
+ghost use Rattle.page_bytes.specs.Decoding.{kind_from};
 ghost use Rattle.page_bytes.specs.Spelling.{kind_word};
 
 /// What a page of an index is for.
@@ -23,5 +24,17 @@ pub fn word_of(kind: PageKind) -> u8
         PageKind::Hnsw => 2,
         PageKind::IvfLists => 3,
         PageKind::IvfEntries => 4,
+    }
+}
+
+/// The kind that a number stands for, which is one of those.
+pub fn kind_of(word: u16) -> PageKind
+    ensures { result ≡ kind_from word }
+{
+    match word {
+        1 => PageKind::Meta,
+        2 => PageKind::Hnsw,
+        3 => PageKind::IvfLists,
+        _ => PageKind::IvfEntries,
     }
 }

@@ -4,11 +4,12 @@ ghost use Rattle.std.specs.Prelude.{◌≡◌, ◌+◌, ◌-◌, ◌*◌, ◌<�
 ghost use Rattle.std.specs.Option.{option_copied};
 ghost use Rattle.page_bytes.specs.Content.{IsPage, IsItem, IsNext, round8, free_of, item_at};
 ghost use Rattle.page_bytes.specs.Spelling.{spelling};
+ghost use Rattle.page_bytes.specs.Splice.{with_item};
+ghost use Rattle.page_bytes.specs.declared.kind.PageKind.TheVariants.{IvfEntries};
 
+use crate::bytes::{half, long, named, put, word};
+use crate::kind::{PageKind, kind_of, word_of};
 use std::marker::Model;
-
-use crate::bytes::{half, long, put, word};
-use crate::kind::{PageKind, word_of};
 
 const SIZE: usize = 8192;
 
@@ -36,7 +37,11 @@ impl Page {
     {
         let mut bytes = [0; SIZE];
         put(&mut bytes, 12, &[24, 0, 0xF8, 0x1F, 0xF8, 0x1F, 0x04, 0x20]);
-        put(&mut bytes, 8184, &[0xFF, 0xFF, 0xFF, 0xFF, 0, 0, word_of(kind), 0]);
+        put(
+            &mut bytes,
+            8184,
+            &[0xFF, 0xFF, 0xFF, 0xFF, 0, 0, word_of(kind), 0],
+        );
         Page { bytes }
     }
 
@@ -48,10 +53,133 @@ impl Page {
         &self.bytes
     }
 
-    /// The number of the last event that changed the page.
+    /// What the page is for.
+    #[tactic(auto, unfolding(crate::specs::Decoding::content))]
+    pub fn kind(&self) -> PageKind
+        ensures { result ≡ self.now.kind }
+    {
+        kind_of(half(&self.bytes, 8190))
+    }
+
+    /// The block of the next page of the same list. Only pages of kind `IvfEntries` have one.
+    #[tactic(auto, unfolding(crate::specs::Decoding::content))]
+    pub fn next(&self) -> Option<u32>
+        ensures { result ≡ self.now.next }
+    {
+        let next = word(&self.bytes, 8184);
+        if next == u32::MAX { None } else { Some(next) }
+    }
+
+    /// The number of the last event that changed the page, and 0 where there is none.
+    #[tactic(auto, unfolding(crate::specs::Decoding::content))]
     pub fn number(&self) -> u64
         ensures { result ≡ self.now.number }
     {
         long(&self.bytes, 0)
     }
+
+    /// How many items the page has.
+    pub fn count(&self) -> u16
+        ensures { result ≡ length self.now.items }
+    {
+        (half(&self.bytes, 12) - 24) / 4
+    }
+
+    /// The bytes that are left, `pd_upper` less `pd_lower`.
+    pub fn free(&self) -> u16
+        ensures { result ≡ free_of self.now }
+    {
+        half(&self.bytes, 14) - half(&self.bytes, 12)
+    }
+
+    /// The item at an offset, which is 1 for the first. It is None exactly where the offset is 0 or past the last item.
+    pub fn item(&self, off: u16) -> Option<&[u8]>
+        ensures { option_copied result ≡ item_at self.now.items off }
+    {
+        if off == 0 || off > self.count() {
+            return None;
+        }
+        let pointer = word(&self.bytes, 20 + 4 * usize::from(off));
+        Some(named(&self.bytes, pointer))
+    }
+
+    /// Adds an item of 1 to 8,156 bytes, and gives its offset. It is None, and the page stays, exactly where the
+    /// item's bytes, rounded up to a multiple of 8, and its line pointer of 4 bytes take more than is free.
+    pub fn add_item(&mut self, bytes: &[u8]) -> Option<u16>
+        requires some { 0 < length bytes.now }
+        requires small { length bytes.now ≤ 8156 }
+        ensures refused { IsNone result ↔ (free_of self.old < round8 (length bytes.now) + 4) }
+        ensures kept { IfNone result (self.new ≡ self.old) }
+        ensures offset { IfSome result (λ off. off ≡ length self.old.items + 1) }
+        ensures added { OnSome result
+            (self.new ≡ record self.old { items = self.old.items ++ bytes.now ∷ [] }) }
+    {
+        let lower = half(&self.bytes, 12);
+        let upper = half(&self.bytes, 14);
+        let room = rounded(bytes.len());
+        if upper - lower < room + 4 {
+            return None;
+        }
+        place_item(&mut self.bytes, lower, upper - room, bytes);
+        Some((lower - 20) / 4)
+    }
+
+    /// Writes over an item that is there, by as many bytes.
+    pub fn overwrite(&mut self, off: u16, bytes: &[u8])
+        requires { IsSomeAnd (item_at self.old.items off) (λ x. length x ≡ length bytes.now) }
+        ensures { self.new ≡ record self.old { items = slice_set self.old.items (off - 1) bytes.now } }
+    {
+        let pointer = word(&self.bytes, 20 + 4 * usize::from(off));
+        put(&mut self.bytes, (pointer % 0x8000) as usize, bytes);
+    }
+
+    /// Sets the next block of a page of kind `IvfEntries`. A block is below 0xFFFFFFFF.
+    pub fn set_next(&mut self, next: Option<u32>)
+        requires kind { self.old.kind ≡ IvfEntries }
+        requires block { IfSome next (λ block. block < 0xFFFFFFFF) }
+        ensures { self.new ≡ record self.old { next = next } }
+    {
+        put(
+            &mut self.bytes,
+            8184,
+            &next.unwrap_or(u32::MAX).to_le_bytes(),
+        );
+    }
+
+    /// Sets the number of the last event that changed the page.
+    pub fn set_number(&mut self, number: u64)
+        ensures { self.new ≡ record self.old { number = number } }
+    {
+        put(&mut self.bytes, 0, &number.to_le_bytes());
+    }
+
+    /// An equal page.
+    pub fn copied(&self) -> Page
+        ensures { result ≡ self.now }
+    {
+        Page { bytes: self.bytes }
+    }
+}
+
+/// Writes an item that has room, its line pointer, and where both end now: `lower` is where the line pointers
+/// end, and `place` is where the item goes.
+fn place_item(bytes: &mut [u8], lower: u16, place: u16, item: &[u8])
+    requires long { length bytes.old ≡ 8192 }
+    requires room { lower + 4 ≤ place }
+    requires fits { place + length item.now ≤ 8184 }
+    ensures { bytes.new ≡ with_item bytes.old lower place item.now }
+{
+    let pointer = u32::from(place) + 0x8000 + item.len() as u32 * 0x2_0000;
+    put(bytes, usize::from(place), item);
+    put(bytes, usize::from(lower), &pointer.to_le_bytes());
+    put(bytes, 12, &(lower + 4).to_le_bytes());
+    put(bytes, 14, &place.to_le_bytes());
+}
+
+/// The least multiple of 8 that is at least a number.
+fn rounded(n: usize) -> u16
+    requires { n ≤ 8156 }
+    ensures { result ≡ round8 n }
+{
+    (n as u16 + 7) / 8 * 8
 }
