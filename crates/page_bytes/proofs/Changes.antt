@@ -14,7 +14,7 @@ use Rattle.page_bytes.proofs.Numbers.{spliced_at}
 use Rattle.page_bytes.proofs.Placing.{line_pointers-cons, line_pointers-append, length-line_pointer, Rounds, rounds, taken-nil, taken-cons, taken-append, stacked-cons, stacked-append, length-line_pointers, length-stacked, Lies, items_at-lies, Points}
 use Rattle.page_bytes.proofs.Whole.{length-header, header_of, front, spelling-front, length-front, item_points}
 
-zeros-add : (m n : ℕ) → zeros (m + n) ≡ zeros m ++ zeros n
+pub zeros-add : (m n : ℕ) → zeros (m + n) ≡ zeros m ++ zeros n
 zeros-add m n = sym (replicate-append-replicate m n 0)
 
 -- ---- a page with no items
@@ -36,11 +36,11 @@ special_fresh Hnsw = refl
 special_fresh IvfLists = refl
 special_fresh IvfEntries = refl
 
-line_pointers-nil : (top : ℕ) → line_pointers top [] ≡ []
+pub line_pointers-nil : (top : ℕ) → line_pointers top [] ≡ []
 unfolding line_pointers
 line_pointers-nil top = refl
 
-stacked-nil : stacked [] ≡ []
+pub stacked-nil : stacked [] ≡ []
 unfolding stacked
 stacked-nil = refl
 
@@ -155,22 +155,22 @@ overwritten bytes p before x y after place s is x_fits len at =
 
 -- ---- an item more
 
-line_pointers-one : (top : ℕ) (x : List ℕ) → line_pointers top (x ∷ []) ≡ line_pointer (top - round8 (length x)) (length x)
+pub line_pointers-one : (top : ℕ) (x : List ℕ) → line_pointers top (x ∷ []) ≡ line_pointer (top - round8 (length x)) (length x)
 line_pointers-one top x =
     let place = top - round8 (length x) in
     line_pointers-cons top x [] ∙ ap (λ (t : List ℕ). line_pointer place (length x) ++ t) (line_pointers-nil place) ∙ append-nil (line_pointer place (length x))
 
-stacked-one : (x : List ℕ) → stacked (x ∷ []) ≡ padded x
+pub stacked-one : (x : List ℕ) → stacked (x ∷ []) ≡ padded x
 stacked-one x = stacked-cons x [] ∙ ap (λ (t : List ℕ). t ++ padded x) stacked-nil
 
-taken-one : (x : List ℕ) → taken (x ∷ []) ≡ round8 (length x)
+pub taken-one : (x : List ℕ) → taken (x ∷ []) ≡ round8 (length x)
 taken-one x = omega (arith, taken-cons x [], taken-nil)
 
-spliced-lower : (n l u m : ℕ) (z : List ℕ) → spliced (header n l u ++ z) 12 (to_le_bytes w16 m) ≡ header n m u ++ z
+pub spliced-lower : (n l u m : ℕ) (z : List ℕ) → spliced (header n l u ++ z) 12 (to_le_bytes w16 m) ≡ header n m u ++ z
 unfolding spliced header
 spliced-lower n l u m z = refl
 
-spliced-upper : (n l u m : ℕ) (z : List ℕ) → spliced (header n l u ++ z) 14 (to_le_bytes w16 m) ≡ header n l m ++ z
+pub spliced-upper : (n l u m : ℕ) (z : List ℕ) → spliced (header n l u ++ z) 14 (to_le_bytes w16 m) ≡ header n l m ++ z
 unfolding spliced header
 spliced-upper n l u m z = refl
 

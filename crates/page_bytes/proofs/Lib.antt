@@ -2,3 +2,4 @@ pub mod Numbers
 pub mod Placing
 pub mod Whole
 pub mod Changes
+pub mod Dropped

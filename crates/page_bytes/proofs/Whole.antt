@@ -202,3 +202,6 @@ pub record Ends (bytes : List ℕ) (p : Content) : Type 0 where
 pub ends : (bytes : List ℕ) (p : Content) → IsSpelled bytes → content bytes ≡ p → Ends bytes p
 ends bytes p s e =
     subst (Ends bytes) e (record { lower = lower_is bytes s; upper = upper_is bytes s; room = s.page.room })
+
+pub length_is : (bytes : List ℕ) → IsSpelled bytes → length bytes ≡ 8192
+length_is bytes s = ap length s.same ∙ length-spelling (content bytes) s.page.room

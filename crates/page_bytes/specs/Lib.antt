@@ -2,3 +2,4 @@ pub mod Content
 pub mod Spelling
 pub mod Decoding
 pub mod Splice
+pub mod Dropping

@@ -1,7 +1,9 @@
 //! Numbers within bytes, their low byte first.
 
-ghost use Rattle.std.specs.Prelude.{◌≡◌, ◌+◌, ◌/◌, ◌%◌, ◌^◌, ◌≤◌, length};
+ghost use Rattle.std.specs.Prelude.{◌≡◌, ◌+◌, ◌*◌, ◌/◌, ◌%◌, ◌^◌, ◌≤◌, length};
+ghost use Rattle.page_bytes.specs.Content.{round8};
 ghost use Rattle.page_bytes.specs.Decoding.{half_at, word_at, long_at, named_by};
+ghost use Rattle.page_bytes.specs.Spelling.{line_pointer};
 ghost use Rattle.page_bytes.specs.Splice.{spliced};
 
 #[tactic(auto, unfolding(crate::specs::Decoding::half_at))]
@@ -46,4 +48,25 @@ pub fn named(bytes: &[u8], pointer: u32) -> &[u8]
     let place = (pointer % 0x8000) as usize;
     let len = (pointer / 0x2_0000) as usize;
     &bytes[place..place + len]
+}
+
+/// The least multiple of 8 that is at least the length of an item.
+#[tactic(auto, unfolding(crate::specs::Content::round8))]
+pub fn rounded(len: usize) -> u16
+    requires { len ≤ 8184 }
+    ensures { result ≡ round8 len }
+{
+    (len as u16 + 7) / 8 * 8
+}
+
+/// Writes the line pointer of an item, from its place and its length.
+#[tactic(auto, unfolding(crate::specs::Spelling::line_pointer))]
+pub fn put_pointer(bytes: &mut [u8], at: usize, place: u16, len: u32)
+    requires within { at + 4 ≤ length bytes.old }
+    requires place { place ≤ 8184 }
+    requires len { len ≤ 8184 }
+    ensures { bytes.new ≡ spliced bytes.old at (line_pointer place len) }
+{
+    let pointer = u32::from(place) + 0x8000 + len * 0x2_0000;
+    put(bytes, at, &pointer.to_le_bytes());
 }

@@ -6,6 +6,7 @@
 #![tactic(auto)]
 
 mod bytes;
+mod drops;
 mod kind;
 mod page;
 

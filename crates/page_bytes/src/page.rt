@@ -1,13 +1,15 @@
 //! A page in its bytes.
 
-ghost use Rattle.std.specs.Prelude.{◌≡◌, ◌+◌, ◌-◌, ◌*◌, ◌<◌, ◌≤◌, ◌↔◌, [], ◌∷◌, ◌++◌, length, slice_set, Some, None, IsNone, IfSome, IfNone, OnSome, IsSomeAnd};
+ghost use Rattle.std.specs.Prelude.{◌≡◌, ◌+◌, ◌-◌, ◌*◌, ◌<◌, ◌≤◌, ◌↔◌, [], ◌∷◌, ◌++◌, length, slice_set, Some, None, IsNone, IfSome, IfNone, OnSome, IsSomeAnd, All};
+ghost use Rattle.std.specs.List.Sorted.{IsStrictlyIncreasing};
 ghost use Rattle.std.specs.Option.{option_copied};
-ghost use Rattle.page_bytes.specs.Content.{IsPage, IsItem, IsNext, round8, free_of, item_at};
+ghost use Rattle.page_bytes.specs.Content.{IsPage, round8, free_of, item_at, others};
 ghost use Rattle.page_bytes.specs.Spelling.{spelling};
 ghost use Rattle.page_bytes.specs.Splice.{with_item};
 ghost use Rattle.page_bytes.specs.declared.kind.PageKind.TheVariants.{IvfEntries};
 
-use crate::bytes::{half, long, named, put, word};
+use crate::bytes::{half, long, named, put, put_pointer, rounded, word};
+use crate::drops::drop_from;
 use crate::kind::{PageKind, kind_of, word_of};
 use std::marker::Model;
 
@@ -133,6 +135,15 @@ impl Page {
         put(&mut self.bytes, (pointer % 0x8000) as usize, bytes);
     }
 
+    /// Drops the items at some offsets, which are there and rise. The others close up in their order.
+    pub fn drop_items(&mut self, gone: &[u16])
+        requires there { All (λ off. (0 < off) × (off ≤ length self.old.items)) gone.now }
+        requires rising { IsStrictlyIncreasing gone.now }
+        ensures { self.new ≡ record self.old { items = others gone.now 1 self.old.items } }
+    {
+        drop_from(&mut self.bytes, gone);
+    }
+
     /// Sets the next block of a page of kind `IvfEntries`. A block is below 0xFFFFFFFF.
     pub fn set_next(&mut self, next: Option<u32>)
         requires kind { self.old.kind ≡ IvfEntries }
@@ -169,17 +180,8 @@ fn place_item(bytes: &mut [u8], lower: u16, place: u16, item: &[u8])
     requires fits { place + length item.now ≤ 8184 }
     ensures { bytes.new ≡ with_item bytes.old lower place item.now }
 {
-    let pointer = u32::from(place) + 0x8000 + item.len() as u32 * 0x2_0000;
     put(bytes, usize::from(place), item);
-    put(bytes, usize::from(lower), &pointer.to_le_bytes());
+    put_pointer(bytes, usize::from(lower), place, item.len() as u32);
     put(bytes, 12, &(lower + 4).to_le_bytes());
     put(bytes, 14, &place.to_le_bytes());
-}
-
-/// The least multiple of 8 that is at least a number.
-fn rounded(n: usize) -> u16
-    requires { n ≤ 8156 }
-    ensures { result ≡ round8 n }
-{
-    (n as u16 + 7) / 8 * 8
 }
