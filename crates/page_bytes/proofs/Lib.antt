@@ -3,3 +3,8 @@ pub mod Placing
 pub mod Whole
 pub mod Changes
 pub mod Dropped
+pub mod Formats
+pub mod Parts
+pub mod Alive
+pub mod Grammar
+pub mod Spelled
