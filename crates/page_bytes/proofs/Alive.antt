@@ -4,10 +4,10 @@ use Rattle.std.proofs.lemmas.Bool.Decides.{nat_tests}
 use Rattle.std.proofs.lemmas.Bool.{cases_eq}
 use Rattle.page_bytes.specs.Content.{round8}
 use Rattle.page_bytes.specs.Spelling.{zeros}
-use Rattle.page_bytes.specs.Format.{Format, free, fixed, half, kinds, ending, stack, pointer, pointers, behind_upper, least_upper, most_upper, behind_lower, page}
+use Rattle.page_bytes.specs.Format.{Format, free, fixed, half, kinds, ending, stack, pointer, pointers, behind_upper, least_upper, most_upper, behind_lower, page, InHalf, InPointer, Allows, Room}
 use Rattle.page_bytes.specs.Format.Format.{Done, Byte}
 use Rattle.page_bytes.proofs.Formats.{Live}
-use Rattle.page_bytes.proofs.Parts.{Steps, by_1, by_4, by_8, InHalf, free_live, fixed_live, half_live, InPointer, Allows, pointer_live}
+use Rattle.page_bytes.proofs.Parts.{Steps, by_1, by_4, by_8, free_live, fixed_live, half_live, pointer_live}
 
 live_done : Live Done
 unfolding Live
@@ -33,14 +33,6 @@ unfolding stack
 live_stack [] = live_ending
 live_stack (len ∷ lens) =
     free_live len (fixed (zeros (round8 len - len)) (stack lens)) (fixed_live (zeros (round8 len - len)) (stack lens) (live_stack lens))
-
--- what holds before so many line pointers
-pub record Room (left upper top : ℕ) : Type 0 where
-  pub upper_whole : upper % 8 ≡ 0
-  pub top_whole : top % 8 ≡ 0
-  pub within : top ≤ 8184
-  pub enough : upper + 8 * left ≤ top
-  pub full : left ≡ 0 → upper ≡ top
 
 pub most_place-cases : (left upper top : ℕ) → ((left ≡ 0) × (cond (nat_eq left 0) upper (top - 8) ≡ upper)) ⊎ ((0 < left) × (cond (nat_eq left 0) upper (top - 8) ≡ top - 8))
 most_place-cases zero upper top = inl (refl, refl)

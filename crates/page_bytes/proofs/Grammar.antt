@@ -13,13 +13,13 @@ use Rattle.page_bytes.specs.Spelling.{zeros, header, line_pointer, line_pointers
 use Rattle.page_bytes.specs.Decoding.{next_from, kind_from, Spells}
 use Rattle.page_bytes.specs.declared.kind.PageKind.{PageKind}
 use Rattle.page_bytes.specs.declared.kind.PageKind.TheVariants.{Meta, Hnsw, IvfLists, IvfEntries}
-use Rattle.page_bytes.specs.Format.{Format, free, fixed, half, pointer, kinds, ending, stack, pointers, behind_upper, least_upper, most_upper, behind_lower, page, room_of}
+use Rattle.page_bytes.specs.Format.{Format, free, fixed, half, pointer, kinds, ending, stack, pointers, behind_upper, least_upper, most_upper, behind_lower, page, room_of, InHalf, InPointer, Allows, Room}
 use Rattle.page_bytes.specs.Format.Format.{Done, Byte}
 use Rattle.page_bytes.proofs.Placing.{Rounds, rounds, taken-nil, taken-cons, taken-append, taken-whole, line_pointers-cons, length-padded, stacked-cons, stacked-append, length-stacked}
 use Rattle.page_bytes.proofs.Changes.{stacked-nil, stacked-one, line_pointers-nil, spelling-from}
 use Rattle.page_bytes.proofs.Formats.{Matches}
-use Rattle.page_bytes.proofs.Parts.{Steps, by_1, by_4, by_8, InHalf, InPointer, Allows, Free, Half, Pointer, free_matched, free_match, fixed_matched, fixed_match, half_matched, half_match, pointer_matched, pointer_match, four}
-use Rattle.page_bytes.proofs.Alive.{Room, room_allows, room_after, Uppers, uppers, first_room}
+use Rattle.page_bytes.proofs.Parts.{by_1, by_4, by_8, Free, Half, Pointer, free_matched, free_match, fixed_matched, fixed_match, half_matched, half_match, pointer_matched, pointer_match, four}
+use Rattle.page_bytes.proofs.Alive.{room_allows, room_after, Uppers, uppers, first_room}
 
 -- ---- line pointers by lengths
 

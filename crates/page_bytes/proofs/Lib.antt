@@ -8,3 +8,4 @@ pub mod Parts
 pub mod Alive
 pub mod Grammar
 pub mod Spelled
+pub mod Readers

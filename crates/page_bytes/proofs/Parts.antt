@@ -5,10 +5,11 @@ use Rattle.std.specs.List.{All}
 use Rattle.std.proofs.Math.Nat.{add-mul-mod_self_left}
 use Rattle.std.proofs.lemmas.Bool.{false≢true, eq-eqb, eqb-true, ltb-true, lt-ltb, leb-true, le-leb, false_from_ne_true}
 use Rattle.std.proofs.lemmas.Bool.Decides.{nat_tests}
+use Rattle.std.proofs.lemmas.Nat.{div-add-mod'}
 use Rattle.std.proofs.lemmas.List.Elements.{All-nil, All-cons, All-head, All-tail}
 use Rattle.page_bytes.specs.Content.{round8}
 use Rattle.page_bytes.specs.Spelling.{zeros, line_pointer}
-use Rattle.page_bytes.specs.Format.{Format, first_bad, bad_place, free, fixed, begins_half, is_half, half, pointer}
+use Rattle.page_bytes.specs.Format.{Format, first_bad, bad_place, free, fixed, begins_half, is_half, half, pointer, InHalf, InPointer, Allows}
 use Rattle.page_bytes.specs.Format.Format.{Done, Byte}
 use Rattle.page_bytes.proofs.Placing.{Rounds, rounds}
 use Rattle.page_bytes.proofs.Formats.{Matches, Live, either, passes, stops}
@@ -79,11 +80,6 @@ fixed_live (x ∷ want) next l = ((x, eq-eqb x x refl), λ b e. fixed_live want 
 
 -- ---- half words
 
-pub record InHalf (low high step n : ℕ) : Type 0 where
-  pub least : low ≤ n
-  pub most : n ≤ high
-  pub even : n % step ≡ 0
-
 pub record Begins (low high step b : ℕ) : Type 0 where
   pub small : b < 256
   pub even : b % step ≡ 0
@@ -120,10 +116,13 @@ unfolding begins_half
 begins-from low high step b h =
     and_from (nat_lt b 256) (nat_eq (b % step) 0 && nat_le (low + (b + 256 - low % 256) % 256) high) (lt-ltb b 256 h.small) (and_from (nat_eq (b % step) 0) (nat_le (low + (b + 256 - low % 256) % 256) high) (eq-eqb (b % step) 0 h.even) (le-leb (low + (b + 256 - low % 256) % 256) high h.fits))
 
--- a step of 1, 2, 4 or 8 tells from the low byte
+-- a step that divides 256 tells from the low byte
 pub record Steps (step : ℕ) : Type 0 where
   pub times : ℕ
   pub whole : step * times ≡ 256
+
+pub steps_of : (step : ℕ) → 256 % step ≡ 0 → Steps step
+steps_of step e = record { times = 256 / step; whole = omega (arith, div-add-mod' 256 step, e) }
 
 low_byte : (step a b : ℕ) → Steps step → (a + b * 2 ^ 8) % step ≡ a % step
 low_byte step a b s =
@@ -216,22 +215,6 @@ pub by_8 : Steps 8
 by_8 = record { times = 32; whole = refl }
 
 -- ---- line pointers
-
--- what a line pointer may say: where its item lies, and how long it is
-pub record InPointer (least most top place len : ℕ) : Type 0 where
-  pub from : least ≤ place
-  pub upto : place ≤ most
-  pub even : place % 8 ≡ 0
-  pub room : place + round8 len ≡ top
-  pub some : 0 < len
-
--- where a line pointer may be
-pub record Allows (least most top : ℕ) : Type 0 where
-  pub order : least ≤ most
-  pub below : most + 8 ≤ top
-  pub within : top ≤ 8184
-  pub most_even : most % 8 ≡ 0
-  pub top_even : top % 8 ≡ 0
 
 round8-is : (n r : ℕ) → r % 8 ≡ 0 → n ≤ r → r < n + 8 → round8 n ≡ r
 round8-is n r even low high = let k = rounds n in omega (arith, k.above, k.close, k.whole)

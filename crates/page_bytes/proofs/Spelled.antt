@@ -9,13 +9,13 @@ use Rattle.page_bytes.specs.Content.{Content, IsPage, IsItem, IsNext, round8, ta
 use Rattle.page_bytes.specs.Spelling.{zeros, header, line_pointer, line_pointers, padded, stacked, special, spelling, next_word, kind_word}
 use Rattle.page_bytes.specs.declared.kind.PageKind.{PageKind}
 use Rattle.page_bytes.specs.declared.kind.PageKind.TheVariants.{Meta, Hnsw, IvfLists, IvfEntries}
-use Rattle.page_bytes.specs.Format.{Format, free, fixed, half, pointer, kinds, ending, stack, pointers, behind_upper, least_upper, most_upper, behind_lower, page}
+use Rattle.page_bytes.specs.Format.{Format, free, fixed, half, pointer, kinds, ending, stack, pointers, behind_upper, least_upper, most_upper, behind_lower, page, InHalf, InPointer, Allows, Room}
 use Rattle.page_bytes.specs.Format.Format.{Done, Byte}
 use Rattle.page_bytes.proofs.Placing.{Rounds, rounds, taken-nil, taken-cons, taken-whole, line_pointers-first, stacked-cons}
 use Rattle.page_bytes.proofs.Changes.{stacked-nil, line_pointers-nil}
 use Rattle.page_bytes.proofs.Formats.{Matches}
-use Rattle.page_bytes.proofs.Parts.{by_1, by_4, by_8, InHalf, InPointer, Allows, free_match, fixed_match, half_match, pointer_match}
-use Rattle.page_bytes.proofs.Alive.{Room, room_allows, room_after, most_place-cases, least_upper-cases}
+use Rattle.page_bytes.proofs.Parts.{by_1, by_4, by_8, free_match, fixed_match, half_match, pointer_match}
+use Rattle.page_bytes.proofs.Alive.{room_allows, room_after, most_place-cases, least_upper-cases}
 use Rattle.page_bytes.proofs.Grammar.{word_halves, kinds-none, kinds-some, done_match, header_fields}
 
 -- ---- items

@@ -1,8 +1,8 @@
 -- A page's bytes from left to right: which byte may stand at each place, after the ones before it.
-use Rattle.std.specs.Prelude.{◌≡◌, ℕ, zero, suc, ◌+◌, ◌-◌, ◌*◌, ◌/◌, ◌%◌, ◌^◌, Bool, true, ◌&&◌, ◌==◌, nat_lt, nat_le, List, [], ◌∷◌, drop, if◌then◌else◌}
+use Rattle.std.specs.Prelude.{◌≡◌, ◌<◌, ◌≤◌, Result, Ok, Err, ℕ, zero, suc, ◌+◌, ◌-◌, ◌*◌, ◌/◌, ◌%◌, ◌^◌, Bool, true, ◌&&◌, ◌==◌, nat_lt, nat_le, List, [], ◌∷◌, drop, if◌then◌else◌}
 use Rattle.page_bytes.specs.Content.{round8}
 use Rattle.page_bytes.specs.Spelling.{zeros}
-use Rattle.page_bytes.specs.Decoding.{word_at}
+use Rattle.page_bytes.specs.Decoding.{half_at, word_at}
 
 -- which bytes may come next, and what comes after each
 pub data Format : Type 0 where
@@ -97,3 +97,59 @@ lens_at bytes (suc n) = word_at bytes (24 + 4 * n) / 2 ^ 17 ∷ lens_at bytes n
 unfoldable pub room_of : List ℕ → ℕ
 room_of [] = 0
 room_of (len ∷ lens) = round8 len + room_of lens
+
+-- ---- what the parts mean
+
+pub record InHalf (low high step n : ℕ) : Type 0 where
+  pub least : low ≤ n
+  pub most : n ≤ high
+  pub even : n % step ≡ 0
+
+-- what a line pointer may say: where its item lies, and how long it is
+pub record InPointer (least most top place len : ℕ) : Type 0 where
+  pub from : least ≤ place
+  pub upto : place ≤ most
+  pub even : place % 8 ≡ 0
+  pub room : place + round8 len ≡ top
+  pub some : 0 < len
+
+-- where a line pointer may be
+pub record Allows (least most top : ℕ) : Type 0 where
+  pub order : least ≤ most
+  pub below : most + 8 ≤ top
+  pub within : top ≤ 8184
+  pub most_even : most % 8 ≡ 0
+  pub top_even : top % 8 ≡ 0
+
+-- what holds before so many line pointers
+pub record Room (left upper top : ℕ) : Type 0 where
+  pub upper_whole : upper % 8 ≡ 0
+  pub top_whole : top % 8 ≡ 0
+  pub within : top ≤ 8184
+  pub enough : upper + 8 * left ≤ top
+  pub full : left ≡ 0 → upper ≡ top
+
+-- ---- what a reader found
+
+-- that the bad place is that of what comes after, or the bad place
+abbrev pub Passes : Format → Format → List ℕ → ℕ → ℕ → Result (Unit {0}) ℕ → Type 0
+Passes format after bytes at end (Ok done) = bad_place format bytes at ≡ bad_place after bytes end
+Passes format after bytes at end (Err bad) = bad_place format bytes at ≡ bad
+
+-- a half word, with what it says
+abbrev pub FindsHalf : ℕ → ℕ → ℕ → List ℕ → ℕ → Result ℕ ℕ → Type 0
+FindsHalf low high step bytes at (Ok n) =
+    (n ≡ half_at bytes at) × InHalf low high step n × ((next : ℕ → Format) → bad_place (half low high step next) bytes at ≡ bad_place (next n) bytes (at + 2))
+FindsHalf low high step bytes at (Err bad) = (next : ℕ → Format) → bad_place (half low high step next) bytes at ≡ bad
+
+-- the place of an item, which a line pointer tells with the item's length
+abbrev pub FindsPlace : ℕ → ℕ → ℕ → List ℕ → ℕ → Result ℕ ℕ → Type 0
+FindsPlace least most top bytes at (Ok place) =
+    let len = word_at bytes at / 2 ^ 17 in InPointer least most top place len × ((next : ℕ → ℕ → Format) → bad_place (pointer least most top next) bytes at ≡ bad_place (next place len) bytes (at + 4))
+FindsPlace least most top bytes at (Err bad) = (next : ℕ → ℕ → Format) → bad_place (pointer least most top next) bytes at ≡ bad
+
+-- line pointers, after which the lengths are known that they tell, and so where the items end
+abbrev pub PassesPointers : ℕ → ℕ → List ℕ → Result (Unit {0}) ℕ → Type 0
+PassesPointers count upper bytes (Ok done) =
+    (upper + room_of (lens_at bytes count) ≡ 8184) × ((gap : ℕ) → bad_place (pointers count gap upper 8184 []) bytes 24 ≡ bad_place (fixed (zeros gap) (stack (lens_at bytes count))) bytes (24 + 4 * count))
+PassesPointers count upper bytes (Err bad) = (gap : ℕ) → bad_place (pointers count gap upper 8184 []) bytes 24 ≡ bad

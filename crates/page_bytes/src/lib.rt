@@ -9,6 +9,7 @@ mod bytes;
 mod drops;
 mod kind;
 mod page;
+mod reading;
 
 pub use kind::PageKind;
 pub use page::Page;
