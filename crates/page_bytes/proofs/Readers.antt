@@ -9,7 +9,7 @@ use Rattle.page_bytes.specs.Format.{Format, first_bad, bad_place, free, fixed, b
 use Rattle.page_bytes.specs.Format.Format.{Done, Byte}
 use Rattle.page_bytes.proofs.Formats.{passes, stops}
 use Rattle.page_bytes.proofs.Alive.{room_allows, room_after}
-use Rattle.page_bytes.proofs.Parts.{Steps, Begins, in_pointer, is_half-true, is_half-from, begins-true, begins-from, half_passes, half_stops_first, half_stops_second, free_passes}
+use Rattle.page_bytes.proofs.Parts.{Steps, by_1, Begins, in_pointer, is_half-true, is_half-from, begins-true, begins-from, half_passes, half_stops_first, half_stops_second, free_passes}
 
 -- the bytes from a place on
 one_at : (bytes : List ℕ) (at : ℕ) → at < length bytes → drop at bytes ≡ get_or bytes at 0 ∷ drop (at + 1) bytes
@@ -269,3 +269,23 @@ pub stack_skips : (bytes : List ℕ) (left i at len rounded : ℕ) → left ≡ 
 stack_skips bytes left i at len rounded last len_is rounded_is fits within =
     let n : round8 (len_at bytes i) - len_at bytes i ≡ at + rounded - (at + len) = omega (arith, len_is, rounded_is) in
     stack_on bytes left i at last fits within ∙ ap (λ (k : ℕ). bad_place (fixed (zeros k) (stack (lens_at bytes i))) bytes (at + len_at bytes i)) n ∙ ap (λ (k : ℕ). bad_place (fixed (zeros (at + rounded - (at + len))) (stack (lens_at bytes i))) bytes (at + k)) (sym len_is)
+
+-- ---- the special space, and the header
+
+half_small : (bytes : List ℕ) (at : ℕ) → ((k : ℕ) → get_or bytes k 0 < 256) → InHalf 0 0xFFFF 1 (half_at bytes at)
+unfolding half_at
+half_small bytes at fits = record { least = omega arith; most = omega (arith, fits at, fits (at + 1)); even = omega arith }
+
+pub ending_begins : (bytes : List ℕ) (least : ℕ) → length bytes ≡ 8192 → ((k : ℕ) → get_or bytes k 0 < 256) → least ≡ cond (nat_eq (word_at bytes 8184) 0xFFFFFFFF) 1 4 → bad_place ending bytes 8184 ≡ bad_place (fixed (zeros 2) (half least 4 1 (λ _. Done))) bytes 8188
+unfolding ending kinds word_at
+ending_begins bytes least long fits e =
+    let kind : ℕ → Format = λ n. fixed (zeros 2) (half n 4 1 (λ _. Done)) in
+    half_found 0 0xFFFF 1 (λ low. half 0 0xFFFF 1 (λ high. kinds low high)) bytes 8184 by_1 (omega (arith, long)) (fits 8184) (half_small bytes 8184 fits) ∙ half_found 0 0xFFFF 1 (λ high. kinds (half_at bytes 8184) high) bytes 8186 by_1 (omega (arith, long)) (fits 8186) (half_small bytes 8186 fits) ∙ ap (λ (n : ℕ). bad_place (kind n) bytes 8188) (sym e)
+
+pub done_at : (bytes : List ℕ) (at : ℕ) → bad_place Done bytes at ≡ at
+unfolding first_bad
+done_at bytes at = omega arith
+
+pub page_begins : (bytes : List ℕ) → length bytes ≡ 8192 → ((k : ℕ) → get_or bytes k 0 < 256) → first_bad page bytes ≡ bad_place (fixed (zeros 4) (half 24 2744 4 behind_lower)) bytes 8
+unfolding page
+page_begins bytes long fits = free_passes 8 (fixed (zeros 4) (half 24 2744 4 behind_lower)) bytes fits (omega (arith, long))

@@ -153,3 +153,10 @@ abbrev pub PassesPointers : ℕ → ℕ → List ℕ → Result (Unit {0}) ℕ �
 PassesPointers count upper bytes (Ok done) =
     (upper + room_of (lens_at bytes count) ≡ 8184) × ((gap : ℕ) → bad_place (pointers count gap upper 8184 []) bytes 24 ≡ bad_place (fixed (zeros gap) (stack (lens_at bytes count))) bytes (24 + 4 * count))
 PassesPointers count upper bytes (Err bad) = (gap : ℕ) → bad_place (pointers count gap upper 8184 []) bytes 24 ≡ bad
+
+-- a header, with where the line pointers end and where the items begin
+abbrev pub FindsEnds : List ℕ → Result (ℕ × ℕ) ℕ → Type 0
+FindsEnds bytes (Ok ends) =
+    let lower = ends.0 in
+    let upper = ends.1 in InHalf 24 2744 4 lower × InHalf (least_upper lower) (most_upper lower) 8 upper × (first_bad page bytes ≡ bad_place (pointers ((lower - 24) / 4) (upper - lower) upper 8184 []) bytes 24)
+FindsEnds bytes (Err bad) = first_bad page bytes ≡ bad

@@ -1,10 +1,10 @@
 //! Finds the first byte that no page with the same earlier bytes has.
 
-ghost use Rattle.std.specs.Prelude.{◌≡◌, ℕ, ◌+◌, ◌-◌, ◌*◌, ◌/◌, ◌%◌, ◌^◌, ◌<◌, ◌≤◌, ◌≢◌, ◌==◌, if◌then◌else◌, length, slice_index};
+ghost use Rattle.std.specs.Prelude.{◌≡◌, ℕ, ◌+◌, ◌-◌, ◌*◌, ◌/◌, ◌%◌, ◌^◌, ◌<◌, ◌≤◌, ◌≢◌, ◌==◌, if◌then◌else◌, [], MatchResult, length, slice_index};
 ghost use Rattle.page_bytes.specs.Spelling.{zeros};
 ghost use Rattle.page_bytes.specs.Decoding.{half_at};
 ghost use Rattle.page_bytes.specs.Format.Format.{Done};
-ghost use Rattle.page_bytes.specs.Format.{Format, page, ending, stack, pointers, fixed, begins_half, is_half, bad_place, first_bad, behind_upper, Passes, PassesPointers, FindsHalf, FindsPlace, InHalf, Allows, Room, lens_at, room_of, least_upper, most_upper};
+ghost use Rattle.page_bytes.specs.Format.{Format, page, ending, stack, pointers, fixed, begins_half, is_half, bad_place, first_bad, behind_upper, Passes, PassesPointers, FindsHalf, FindsPlace, FindsEnds, InHalf, Allows, Room, lens_at, room_of, least_upper, most_upper};
 
 use crate::bytes::{half, long, rounded, word};
 
@@ -164,4 +164,59 @@ fn ending_in(bytes: &[u8]) -> Result<(), u16>
     fixed_in(bytes, 8188, &[0, 0])?;
     half_in(bytes, 8190, least_kind(next), 4, 1)?;
     Ok(())
+}
+
+/// The least place where items may end, after where the line pointers end.
+fn least_end(lower: u16) -> u16
+    ensures { result ≡ least_upper lower }
+{
+    if lower == 24 { 8184 } else { lower }
+}
+
+/// Reads where the line pointers end and where the items begin, and what else the header holds.
+fn header_in(bytes: &[u8]) -> Result<(u16, u16), u16>
+    requires { length bytes.now ≡ 8192 }
+    ensures { FindsEnds bytes.now result }
+{
+    fixed_in(bytes, 8, &[0, 0, 0, 0])?;
+    let lower = half_in(bytes, 12, 24, 2744, 4)?;
+    let upper = half_in(bytes, 14, least_end(lower), 8184 - 2 * (lower - 24), 8)?;
+    fixed_in(bytes, 16, &[0xF8, 0x1F, 0x04, 0x20, 0, 0, 0, 0])?;
+    Ok((lower, upper))
+}
+
+/// Reads what lies behind the header.
+fn items_in(bytes: &[u8], lower: u16, upper: u16) -> Result<(), u16>
+    requires long { length bytes.now ≡ 8192 }
+    requires lower_in { InHalf 24 2744 4 lower }
+    requires upper_in { InHalf (least_upper lower) (most_upper lower) 8 upper }
+    ensures { Passes (pointers ((lower - 24) / 4) (upper - lower) upper 8184 []) Done bytes.now 24 8192 result }
+{
+    let count = (lower - 24) / 4;
+    pointers_in(bytes, count, upper)?;
+    zeros_in(bytes, lower, upper)?;
+    stack_in(bytes, count, upper)?;
+    ending_in(bytes)?;
+    Ok(())
+}
+
+/// Reads a whole page.
+fn page_in(bytes: &[u8]) -> Result<(), u16>
+    requires { length bytes.now ≡ 8192 }
+    ensures { MatchResult result (λ _. first_bad page bytes.now ≡ 8192) (λ bad. first_bad page bytes.now ≡ bad) }
+{
+    let (lower, upper) = header_in(bytes)?;
+    items_in(bytes, lower, upper)?;
+    Ok(())
+}
+
+/// The first place that no page with the same earlier bytes has, and 8,192 where the bytes are a page.
+pub fn first_fault(bytes: &[u8]) -> u16
+    requires { length bytes.now ≡ 8192 }
+    ensures { result ≡ first_bad page bytes.now }
+{
+    match page_in(bytes) {
+        Ok(()) => 8192,
+        Err(at) => at,
+    }
 }
