@@ -62,6 +62,15 @@ nothing_has (Byte allowed next) (b ∷ bytes) rest h m = elim (either (allowed b
   | inr stop ↦ absurd (false≢true (sym stop ∙ m.0))
 ]
 
+pub bad_within : (format : Format) (bytes : List ℕ) → first_bad format bytes ≤ length bytes
+unfolding first_bad
+bad_within Done bytes = omega arith
+bad_within (Byte allowed next) [] = omega arith
+bad_within (Byte allowed next) (b ∷ bytes) = elim (either (allowed b)) [
+  | inl may ↦ omega (arith, passes allowed next b bytes may, bad_within (next b) bytes)
+  | inr stop ↦ omega (arith, stops allowed next b bytes stop)
+]
+
 -- what has the format has no bad byte
 pub no_bad : (format : Format) (bytes : List ℕ) → Matches format bytes → first_bad format bytes ≡ length bytes
 unfolding Matches first_bad

@@ -9,3 +9,4 @@ pub mod Alive
 pub mod Grammar
 pub mod Spelled
 pub mod Readers
+pub mod Verdicts

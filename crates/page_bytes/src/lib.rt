@@ -7,9 +7,11 @@
 
 mod bytes;
 mod drops;
+mod fault;
 mod kind;
 mod page;
 mod reading;
 
+pub use fault::PageFault;
 pub use kind::PageKind;
-pub use page::Page;
+pub use page::{Page, read_page};

@@ -1,16 +1,21 @@
 //! A page in its bytes.
 
-ghost use Rattle.std.specs.Prelude.{◌≡◌, ◌+◌, ◌-◌, ◌*◌, ◌<◌, ◌≤◌, ◌↔◌, [], ◌∷◌, ◌++◌, length, slice_set, Some, None, IsNone, IfSome, IfNone, OnSome, IsSomeAnd, All};
+ghost use Rattle.std.specs.Prelude.{◌≡◌, ◌+◌, ◌-◌, ◌*◌, ◌<◌, ◌≤◌, ◌↔◌, [], ◌∷◌, ◌++◌, length, slice_set, Some, None, IsNone, IfSome, IfNone, OnSome, IsSomeAnd, IfOk, IfErr, Ok, All, min, take};
 ghost use Rattle.std.specs.List.Sorted.{IsStrictlyIncreasing};
 ghost use Rattle.std.specs.Option.{option_copied};
 ghost use Rattle.page_bytes.specs.Content.{IsPage, round8, free_of, item_at, others};
+ghost use Rattle.page_bytes.specs.Content.{Content};
+ghost use Rattle.page_bytes.specs.Decoding.{Spells};
+ghost use Rattle.page_bytes.specs.Faults.{IsFirstFault};
 ghost use Rattle.page_bytes.specs.Spelling.{spelling};
 ghost use Rattle.page_bytes.specs.Splice.{with_item};
 ghost use Rattle.page_bytes.specs.declared.kind.PageKind.TheVariants.{IvfEntries};
 
 use crate::bytes::{half, long, named, put, put_pointer, rounded, word};
 use crate::drops::drop_from;
+use crate::fault::PageFault;
 use crate::kind::{PageKind, kind_of, word_of};
+use crate::reading::first_fault;
 use std::marker::Model;
 
 const SIZE: usize = 8192;
@@ -170,6 +175,34 @@ impl Page {
     {
         Page { bytes: self.bytes }
     }
+}
+
+/// Reads a page. It is Ok exactly for the 8,192 bytes that spell one.
+pub fn read_page(bytes: &[u8]) -> Result<Page, PageFault>
+    ensures found { IfOk result (λ p. Spells bytes.now p) }
+    ensures only { (p : Content) → Spells bytes.now p → result ≡ Ok p }
+    ensures fault { IfErr result (λ fault. IsFirstFault bytes.now fault.at) }
+{
+    let whole = first_bytes(bytes);
+    let at = first_fault(&whole);
+    if at == 8192 && bytes.len() == SIZE {
+        return Ok(Page { bytes: whole });
+    }
+    Err(PageFault {
+        at: usize::from(at).min(bytes.len()) as u16,
+    })
+}
+
+/// The first 8,192 bytes, where there are fewer with zeros behind them.
+fn first_bytes(bytes: &[u8]) -> [u8; SIZE]
+    ensures long { length result ≡ 8192 }
+    ensures same { let count = min (length bytes.now) 8192 in
+        take count result ≡ take count bytes.now }
+{
+    let mut whole = [0; SIZE];
+    let count = bytes.len().min(SIZE);
+    put(&mut whole, 0, &bytes[..count]);
+    whole
 }
 
 /// Writes an item that has room, its line pointer, and where both end now: `lower` is where the line pointers
