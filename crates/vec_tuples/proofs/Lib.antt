@@ -1,0 +1,4 @@
+pub mod FieldLaws
+pub mod EachField
+pub mod MetaLaws
+pub mod Wholes
