@@ -1,14 +1,20 @@
 -- Each field is read as it is spelled.
-use Rattle.std.proofs.Common.{◌≡◌, ℕ, zero, suc, ◌+◌, ◌*◌, ◌<◌, ◌≤◌, ◌^◌, Bool, true, false, ◌&&◌, leb, eqb, slice_index_or, List, [], ◌∷◌, ◌++◌, length, Option, Some, None, refl, sym, ap, subst, ◌∙◌, arith, lit≤}
+use Rattle.std.proofs.Common.{◌≡◌, ℕ, zero, suc, ◌+◌, ◌*◌, ◌/◌, ◌<◌, ◌≤◌, ◌^◌, Bool, true, false, not, ◌&&◌, leb, eqb, slice_index_or, List, [], ◌∷◌, ◌++◌, length, take, drop, Option, Some, None, refl, sym, ap, subst, ◌∙◌, arith, lit≤}
 use Rattle.std.specs.Prelude.{slice_index, ⊤}
 use Rattle.std.specs.Int.{w16, w32, to_le_bytes, from_le_bytes}
 use Rattle.std.proofs.lemmas.Bool.{and_parts, and_from, leb-true, le-leb}
 use Rattle.std.proofs.lemmas.Nat.{le_bytes_2, le_bytes_4, from_le_bytes-to_le_bytes_2, from_le_bytes-to_le_bytes_4}
+use Rattle.std.specs.List.{list_all}
+use Rattle.bit_code.specs.Places.{unpacked, packed, Packed}
+use Rattle.bit_code.proofs.ExactPacking.{length-packed, packed-Packed, unpacked-packed, packed-take, length-take}
 use Rattle.vec_names.specs.declared.tid.Tid.{Tid}
-use Rattle.vec_names.specs.Pointer.{pointer_bytes, tid_option_bytes, tid_option_in, block_in, off_in}
-use Rattle.vec_names.proofs.Pointers.{length-pointer_bytes, pointer_bytes-back, tid_option_in-again, tid_option_of-spelled}
-use Rattle.vec_tuples.specs.Reading.{Reader, field, only_if, byte_from, two_bytes_from, four_bytes_from, optional_place, no_place, none_alone}
-use Rattle.vec_tuples.proofs.FieldLaws.{AreBytes, IsField, Means, field_law}
+use Rattle.vec_names.specs.declared.heap_id.HeapId.{HeapId}
+use Rattle.vec_names.specs.Pointer.{heap_id_bytes, heap_id_in, pointer_bytes, tid_option_bytes, tid_option_in, block_in, off_in}
+use Rattle.vec_names.proofs.Pointers.{heap_id_in-again, heap_id_of-spelled, length-pointer_bytes, pointer_bytes-back, tid_option_in-again, tid_option_of-spelled}
+use Rattle.vec_tuples.specs.Spelling.{length_word, bits_bytes}
+use Rattle.vec_tuples.specs.Reading.{heap_id, packed_places, bit_value, Reader, field, only_if, byte_from, two_bytes_from, four_bytes_from, optional_place, no_place, none_alone}
+use Rattle.vec_tuples.proofs.Clear.{clear_packed, packed_clear}
+use Rattle.vec_tuples.proofs.FieldLaws.{AreBytes, IsField, Means, field_law, viewed_law, then_law, wider}
 
 pub some_is : {A : Type 0} (x y : A) → Some x ≡ Some y → x ≡ y
 some_is x y e = cc
@@ -121,3 +127,57 @@ pub option_six : (o : Option Tid) (tail : List ℕ)
 unfolding pointer_bytes
 option_six None tail = refl
 option_six (Some t) tail = refl
+
+pub row_six : (id : HeapId) (tail : List ℕ)
+    → slice_index_or (heap_id_bytes id) 0 0 ∷ slice_index_or (heap_id_bytes id) 1 0 ∷ slice_index_or (heap_id_bytes id) 2 0 ∷ slice_index_or (heap_id_bytes id) 3 0 ∷ slice_index_or (heap_id_bytes id) 4 0 ∷ slice_index_or (heap_id_bytes id) 5 0 ∷ tail
+    ≡ heap_id_bytes id ++ tail
+unfolding pointer_bytes
+row_six id tail = refl
+
+pub row_field : IsField heap_id heap_id_bytes (λ _. Unit {0}) 6
+unfolding heap_id
+row_field = field_law 6 heap_id_in heap_id_bytes (λ _. Unit {0}) (record {
+  some = lit≤ tt;
+  long = λ id _. length-pointer_bytes id.block id.off;
+  meant_by = λ id _. heap_id_in-again id;
+  only = λ bytes id len bs is. (sym (pointer_bytes-back bytes len bs) ∙ heap_id_of-spelled (block_in bytes) (off_in bytes) (Some id) (sym is), tt);
+})
+
+-- ---- bit values
+
+pub packed_long : (xs : List Bool) → length (packed xs) ≡ (length xs + 7) / 8
+packed_long xs = length-packed xs
+
+pub packed_field : (count : ℕ) → 1 ≤ count → count ≤ 64000 → IsField (packed_places count) packed (λ xs. length xs ≡ count) ((count + 7) / 8)
+unfolding packed_places
+packed_field count some few =
+    field_law ((count + 7) / 8) (λ b. only_if (list_all not (drop count (unpacked b))) (take count (unpacked b))) packed (λ xs. length xs ≡ count) (record {
+      some = omega (arith, some);
+      long = λ xs len. rw (← len) (length-packed xs);
+      meant_by = λ xs len.
+          let kept = packed-Packed xs (omega (arith, some, len)) (omega (arith, few, len)) in
+          rw (← len) (allowed _ _ (clear_packed (length xs) (packed xs) kept) ∙ ap (λ ys. Some ys) (unpacked-packed xs));
+      only = λ bytes xs len bs is.
+          let t = told_only (list_all not (drop count (unpacked bytes))) (take count (unpacked bytes)) xs is in
+          let kept = packed_clear count bytes some few len t.0 in
+          (sym (packed-take count bytes kept bs) ∙ ap packed t.1, sym (ap (λ (ys : List Bool). length ys) t.1) ∙ length-take count bytes kept);
+    })
+
+-- the length word and the count are spelled as they were read
+head_text : (count word read : ℕ) (bits : List Bool) → length bits ≡ count → IsFrom (length_word count) (length_word count) word → IsFrom count count read
+    → bits_bytes bits ≡ to_le_bytes w32 word ++ (to_le_bytes w32 read ++ packed bits)
+head_text count word read bits len is_word is_count =
+    let w : word ≡ length_word (length bits) = ap (λ (n : ℕ). n) (omega (arith, is_word.0, is_word.1)) ∙ sym (ap (λ n. length_word n) len) in
+    let n : read ≡ length bits = omega (arith, is_count.0, is_count.1, len) in
+    rw (w, n) refl
+
+pub bits_field : (count : ℕ) → 1 ≤ count → count ≤ 64000 → IsField (bit_value count) bits_bytes (λ xs. length xs ≡ count) (8 + (count + 7) / 8)
+unfolding bit_value
+bits_field count some few =
+    wider (4 + (4 + (count + 7) / 8)) (8 + (count + 7) / 8) (omega arith)
+    (viewed_law _ _
+    (then_law (four_bytes_field (length_word count) (length_word count) (omega (arith, few))) (then_law (four_bytes_field count count (omega (arith, few))) (packed_field count some few)))
+    bits_bytes (λ xs. length xs ≡ count)
+    (λ bits len.
+    ((length_word count, (count, bits)), refl, ((omega arith, omega arith), ((omega arith, omega arith), len)), head_text count (length_word count) count bits len (omega arith, omega arith) (omega arith, omega arith)))
+    (λ w f. (f.1.1, head_text count w.0 w.1.0 w.1.1 f.1.1 f.0 f.1.0)))

@@ -170,3 +170,13 @@ module _ {A B : Type 0} {f : Reader A} {g : Reader B} where
   pub then_law : {s : A → List ℕ} {P : A → Type 0} {k : ℕ} {t : B → List ℕ} {Q : B → Type 0} {j : ℕ}
       → IsField f s P k → IsField g t Q j → IsField (f ⨟ g) (λ p. s p.0 ++ t p.1) (λ p. P p.0 × Q p.1) (k + j)
   then_law first second = after_law first (λ _ _. second)
+
+-- ---- with more room
+
+pub wider : {A : Type 0} {f : Reader A} {s : A → List ℕ} {P : A → Type 0} (k m : ℕ) → k ≤ m → IsField f s P k → IsField f s P m
+wider k m le law = record {
+  takes = law.takes;
+  again = law.again;
+  small = λ v fits. omega (arith, law.small v fits);
+  near = λ bytes left bs is. let n = law.near bytes left bs is in (n.0, omega (arith, n.1));
+}

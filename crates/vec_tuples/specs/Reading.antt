@@ -1,6 +1,7 @@
 -- Reading a tuple from left to right, field by field, up to the first whose value no tuple with the same earlier
 -- fields has.
 use Rattle.std.specs.Prelude.{◌≡◌, ℕ, zero, suc, ◌+◌, ◌*◌, ◌/◌, ◌≤◌, Bool, not, ◌&&◌, nat_lt, nat_le, ◌==◌, if◌then◌else◌, List, [], ◌∷◌, length, take, drop, slice_index, Option, Some, None}
+use Rattle.std.specs.List.{list_all}
 use Rattle.std.specs.Int.{w16, w32, from_le_bytes}
 use Rattle.vec_names.specs.declared.tid.Tid.{Tid}
 use Rattle.vec_names.specs.declared.params.Kind.{Kind}
@@ -8,9 +9,13 @@ use Rattle.vec_names.specs.declared.params.Kind.TheVariants.{Hnsw, Ivf}
 use Rattle.vec_names.specs.declared.params.Ops.{Ops}
 use Rattle.vec_names.specs.declared.params.Ops.TheVariants.{Hamming, Jaccard}
 use Rattle.vec_names.specs.declared.params.Params.{Params}
-use Rattle.vec_names.specs.Pointer.{tid_option_in}
+use Rattle.vec_names.specs.Pointer.{tid_option_in, heap_id_in}
+use Rattle.vec_names.specs.declared.heap_id.HeapId.{HeapId}
+use Rattle.bit_code.specs.Places.{unpacked}
 use Rattle.vec_tuples.specs.declared.meta.Meta.{Meta}
-use Rattle.vec_tuples.specs.Spelling.{magic}
+use Rattle.vec_tuples.specs.declared.entry.EntryRow.{EntryRow}
+use Rattle.vec_tuples.specs.declared.centre.CentreTuple.{CentreTuple}
+use Rattle.vec_tuples.specs.Spelling.{magic, length_word, row_with, centre_with}
 
 -- ---- readers
 
@@ -144,3 +149,27 @@ unfoldable pub meta : Reader Meta
 meta =
     viewed (λ x. record { format = x.1.0; params = x.1.1.0; entry = x.1.1.1.0; level = x.1.1.1.1.0; hint = x.1.1.1.1.1.1 })
     (four_bytes_from magic magic ⨟ two_bytes_from 1 2 ⨟ and_then params (λ p. and_then (entry_of p.kind) (λ e. level_of e ⨟ byte_from 0 0 ⨟ hint_of p.kind)))
+
+-- ---- bit values
+
+-- the places of a bit value, no unused bit being set
+unfoldable pub packed_places : ℕ → Reader (List Bool)
+packed_places count = field ((count + 7) / 8) (λ b. only_if (list_all not (drop count (unpacked b))) (take count (unpacked b)))
+
+-- a value of so many places: its length, its count and its places
+unfoldable pub bit_value : ℕ → Reader (List Bool)
+bit_value count =
+    viewed (λ x. x.1.1) (four_bytes_from (length_word count) (length_word count) ⨟ four_bytes_from count count ⨟ packed_places count)
+
+-- ---- the entry tuple and the list tuple
+
+unfoldable pub heap_id : Reader HeapId
+heap_id = field 6 heap_id_in
+
+unfoldable pub entry : Params → Reader EntryRow
+entry p = viewed (λ x. row_with x.0 x.1.1) (heap_id ⨟ two_bytes_from 0 0 ⨟ bit_value p.bits)
+
+unfoldable pub centre : Params → Reader CentreTuple
+centre p =
+    viewed (λ x. centre_with x.0 x.1.0 x.1.1.1)
+    (four_bytes_from 0 4294967295 ⨟ four_bytes_from 0 4294967295 ⨟ four_bytes_from 0 0 ⨟ bit_value p.bits)

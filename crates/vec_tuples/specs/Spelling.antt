@@ -1,15 +1,19 @@
 -- The one spelling of each tuple, field after field. Numbers are little-endian.
-use Rattle.std.specs.Prelude.{◌≡◌, ℕ, ◌≤◌, ◌<◌, ◌^◌, List, [], ◌∷◌, ◌++◌, Option, Some, None}
+use Rattle.std.specs.Prelude.{◌≡◌, ℕ, ◌+◌, ◌*◌, ◌/◌, ◌≤◌, ◌<◌, ◌^◌, Bool, List, [], ◌∷◌, ◌++◌, length, Option, Some, None}
 use Rattle.std.specs.Int.{w16, w32, to_le_bytes}
 use Rattle.vec_names.specs.declared.tid.Tid.{Tid}
+use Rattle.vec_names.specs.declared.heap_id.HeapId.{HeapId}
 use Rattle.vec_names.specs.declared.params.Kind.{Kind}
 use Rattle.vec_names.specs.declared.params.Kind.TheVariants.{Hnsw, Ivf}
 use Rattle.vec_names.specs.declared.params.Ops.{Ops}
 use Rattle.vec_names.specs.declared.params.Ops.TheVariants.{Hamming, Jaccard}
 use Rattle.vec_names.specs.declared.params.Params.{Params}
 use Rattle.vec_names.specs.Params.{IsInRange}
-use Rattle.vec_names.specs.Pointer.{tid_option_bytes}
+use Rattle.vec_names.specs.Pointer.{tid_option_bytes, heap_id_bytes}
+use Rattle.bit_code.specs.Places.{packed}
 use Rattle.vec_tuples.specs.declared.meta.Meta.{Meta}
+use Rattle.vec_tuples.specs.declared.entry.EntryRow.{EntryRow}
+use Rattle.vec_tuples.specs.declared.centre.CentreTuple.{CentreTuple}
 
 -- ---- the meta tuple
 
@@ -56,3 +60,36 @@ pub record IsMeta (m : Meta) : Type 0 where
   pub entry : IsEntryOf m.params.kind m.entry
   pub level : IsLevelOf m.entry m.level
   pub hint : IsHintOf m.params.kind m.hint
+
+-- ---- bit values
+
+-- the length of a value's bytes with this head of eight, shifted left by two
+abbrev pub length_word : ℕ → ℕ
+length_word count = 4 * (8 + (count + 7) / 8)
+
+abbrev pub bits_bytes : List Bool → List ℕ
+bits_bytes bits = to_le_bytes w32 (length_word (length bits)) ++ (to_le_bytes w32 (length bits) ++ packed bits)
+
+-- ---- the entry tuple
+
+abbrev pub row_with : HeapId → List Bool → EntryRow
+row_with id bits = record { id = id; bits = bits }
+
+-- a row of the indexed table with its value
+unfoldable pub entry_bytes : EntryRow → List ℕ
+entry_bytes row = heap_id_bytes row.id ++ (0 ∷ 0 ∷ bits_bytes row.bits)
+
+abbrev pub IsEntry : Params → EntryRow → Type 0
+IsEntry params row = length row.bits ≡ params.bits
+
+-- ---- the list tuple
+
+abbrev pub centre_with : ℕ → ℕ → List Bool → CentreTuple
+centre_with first aim bits = record { first = first; aim = aim; bits = bits }
+
+-- the list's first block, the block at which it looks for room, and its centre
+unfoldable pub centre_bytes : CentreTuple → List ℕ
+centre_bytes c = to_le_bytes w32 c.first ++ (to_le_bytes w32 c.aim ++ (0 ∷ 0 ∷ 0 ∷ 0 ∷ bits_bytes c.bits))
+
+abbrev pub IsCentre : Params → CentreTuple → Type 0
+IsCentre params c = (c.first < 2 ^ 32) × (c.aim < 2 ^ 32) × (length c.bits ≡ params.bits)

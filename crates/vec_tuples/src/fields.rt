@@ -1,11 +1,11 @@
 //! The fields of tuples, each read from the front of the bytes.
 
 ghost use Rattle.std.specs.Prelude.{◌≡◌, ◌≤◌, IfOk};
-ghost use Rattle.vec_tuples.specs.Reading.{byte_from, two_bytes_from, four_bytes_from, optional_place, no_place};
+ghost use Rattle.vec_tuples.specs.Reading.{byte_from, two_bytes_from, four_bytes_from, optional_place, no_place, heap_id};
 ghost use Rattle.vec_tuples.specs.Answers.{Gives};
 
 use crate::refused::Refused;
-use vec_names::Tid;
+use vec_names::{HeapId, Tid};
 
 /// A byte from `low` to `high`.
 #[tactic(auto, unfolding(crate::specs::Reading::byte_from, crate::specs::Reading::field))]
@@ -84,5 +84,18 @@ pub fn no_place(bytes: &[u8]) -> Result<(Option<Tid>, &[u8]), Refused>
     match Tid::read_option(*front) {
         Some(None) => Ok((None, rest)),
         _ => Err(Refused { left: bytes.len() }),
+    }
+}
+
+#[tactic(auto, unfolding(crate::specs::Reading::heap_id, crate::specs::Reading::field))]
+pub fn heap_id(bytes: &[u8]) -> Result<(HeapId, &[u8]), Refused>
+    ensures { Gives (λ x. (x.0, x.1.now)) result (heap_id bytes.now) }
+{
+    let Some((front, rest)) = bytes.split_first_chunk::<6>() else {
+        return Err(Refused { left: bytes.len() });
+    };
+    match HeapId::read(*front) {
+        Some(id) => Ok((id, rest)),
+        None => Err(Refused { left: bytes.len() }),
     }
 }

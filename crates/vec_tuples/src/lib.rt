@@ -2,12 +2,18 @@
 //! and written whole, and changed in place.
 #![tactic(auto)]
 
+mod bits;
+mod centre;
+mod entry;
 mod fault;
 mod fields;
 mod meta;
 mod parameters;
+mod pieces;
 mod refused;
 
+pub use centre::{CentreTuple, read_centre, set_aim, write_centre};
+pub use entry::{EntryRow, fill_entry, read_entry, write_entry};
 pub use fault::TupleFault;
 pub use meta::{Meta, fill_meta, read_meta, write_meta};
 
