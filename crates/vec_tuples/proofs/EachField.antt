@@ -1,20 +1,20 @@
 -- Each field is read as it is spelled.
-use Rattle.std.proofs.Common.{◌≡◌, ℕ, zero, suc, ◌+◌, ◌*◌, ◌/◌, ◌<◌, ◌≤◌, ◌^◌, Bool, true, false, not, ◌&&◌, leb, eqb, slice_index_or, List, [], ◌∷◌, ◌++◌, length, take, drop, Option, Some, None, refl, sym, ap, subst, ◌∙◌, arith, lit≤}
-use Rattle.std.specs.Prelude.{slice_index, ⊤}
+use Rattle.std.proofs.Common.{◌≡◌, ℕ, ◌+◌, ◌/◌, ◌<◌, ◌≤◌, ◌^◌, Bool, true, false, not, ◌&&◌, leb, slice_index_or, List, [], ◌∷◌, ◌++◌, length, take, drop, Option, Some, None, refl, sym, ap, subst, ◌∙◌, arith, lit≤}
+use Rattle.std.specs.Prelude.{slice_index}
 use Rattle.std.specs.Int.{w16, w32, to_le_bytes, from_le_bytes}
 use Rattle.std.proofs.lemmas.Bool.{and_parts, and_from, leb-true, le-leb}
 use Rattle.std.proofs.lemmas.Nat.{le_bytes_2, le_bytes_4, from_le_bytes-to_le_bytes_2, from_le_bytes-to_le_bytes_4}
 use Rattle.std.specs.List.{list_all}
-use Rattle.bit_code.specs.Places.{unpacked, packed, Packed}
+use Rattle.bit_code.specs.Places.{unpacked, packed}
 use Rattle.bit_code.proofs.ExactPacking.{length-packed, packed-Packed, unpacked-packed, packed-take, length-take}
 use Rattle.vec_names.specs.declared.tid.Tid.{Tid}
 use Rattle.vec_names.specs.declared.heap_id.HeapId.{HeapId}
 use Rattle.vec_names.specs.Pointer.{heap_id_bytes, heap_id_in, pointer_bytes, tid_option_bytes, tid_option_in, block_in, off_in}
 use Rattle.vec_names.proofs.Pointers.{heap_id_in-again, heap_id_of-spelled, length-pointer_bytes, pointer_bytes-back, tid_option_in-again, tid_option_of-spelled}
 use Rattle.vec_tuples.specs.Spelling.{length_word, bits_bytes}
-use Rattle.vec_tuples.specs.Reading.{heap_id, packed_places, bit_value, Reader, field, only_if, byte_from, two_bytes_from, four_bytes_from, optional_place, no_place, none_alone}
+use Rattle.vec_tuples.specs.Reading.{heap_id, packed_places, bit_value, only_if, byte_from, two_bytes_from, four_bytes_from, optional_place, no_place, none_alone}
 use Rattle.vec_tuples.proofs.Clear.{clear_packed, packed_clear}
-use Rattle.vec_tuples.proofs.FieldLaws.{AreBytes, IsField, Means, field_law, viewed_law, then_law, wider}
+use Rattle.vec_tuples.proofs.FieldLaws.{AreBytes, IsField, field_law, viewed_law, then_law, wider}
 
 pub some_is : {A : Type 0} (x y : A) → Some x ≡ Some y → x ≡ y
 some_is x y e = cc

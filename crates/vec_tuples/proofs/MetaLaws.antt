@@ -1,5 +1,5 @@
 -- The meta tuple is read as it is spelled.
-use Rattle.std.proofs.Common.{◌≡◌, ℕ, ◌+◌, ◌*◌, ◌<◌, ◌≤◌, ◌^◌, Bool, true, false, cond, eqb, List, [], ◌∷◌, ◌++◌, length, Option, Some, None, refl, sym, ap, subst, ◌∙◌, arith, lit≤, lit<}
+use Rattle.std.proofs.Common.{◌≡◌, ℕ, ◌*◌, Bool, true, false, cond, eqb, List, [], ◌∷◌, ◌++◌, length, Option, Some, None, refl, sym, ap, ◌∙◌, arith, lit≤, lit<}
 use Rattle.std.specs.Prelude.{slice_index}
 use Rattle.std.specs.Int.{w16, w32, to_le_bytes}
 use Rattle.std.proofs.lemmas.Bool.{eqb-true}
@@ -9,12 +9,11 @@ use Rattle.vec_names.specs.declared.params.Kind.TheVariants.{Hnsw, Ivf}
 use Rattle.vec_names.specs.declared.params.Ops.{Ops}
 use Rattle.vec_names.specs.declared.params.Ops.TheVariants.{Hamming, Jaccard}
 use Rattle.vec_names.specs.declared.params.Params.{Params}
-use Rattle.vec_names.specs.Params.{IsInRange, IsInRangeOf, IsGraphInRange, AreListsInRange}
+use Rattle.vec_names.specs.Params.{IsInRange, IsInRangeOf}
 use Rattle.vec_names.specs.Pointer.{tid_option_bytes}
-use Rattle.vec_tuples.specs.declared.meta.Meta.{Meta}
 use Rattle.vec_tuples.specs.Spelling.{magic, kind_byte, ops_byte, params_bytes, meta_bytes, IsLevelOf, IsEntryOf, IsHintOf, IsMeta}
-use Rattle.vec_tuples.specs.Reading.{Reader, field, kind_in, kind, ops_in, ops_of, m_of, ef_of, lists_of, params, entry_of, level_of, hint_of, meta}
-use Rattle.vec_tuples.proofs.FieldLaws.{AreBytes, IsField, field_law, viewed_law, after_law, then_law}
+use Rattle.vec_tuples.specs.Reading.{kind_in, kind, ops_in, ops_of, m_of, ef_of, lists_of, params, entry_of, level_of, hint_of, meta}
+use Rattle.vec_tuples.proofs.FieldLaws.{IsField, field_law, viewed_law, after_law, then_law}
 use Rattle.vec_tuples.proofs.EachField.{some_is, IsFrom, one_byte, byte_field, two_bytes_field, four_bytes_field, optional_field, none_field}
 
 -- ---- kinds and distances

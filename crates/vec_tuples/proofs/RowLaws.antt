@@ -1,12 +1,12 @@
 -- The entry tuple and the list tuple are read as they are spelled.
-use Rattle.std.proofs.Common.{◌≡◌, ℕ, ◌+◌, ◌*◌, ◌/◌, ◌<◌, ◌≤◌, ◌^◌, Bool, List, [], ◌∷◌, ◌++◌, length, refl, sym, ap, ◌∙◌, arith, lit<, lit≤}
+use Rattle.std.proofs.Common.{◌≡◌, ℕ, ◌+◌, ◌/◌, List, ◌∷◌, ◌++◌, refl, arith, lit<, lit≤}
 use Rattle.std.specs.Int.{w16, w32, to_le_bytes}
 use Rattle.vec_names.specs.declared.heap_id.HeapId.{HeapId}
 use Rattle.vec_names.specs.declared.params.Params.{Params}
 use Rattle.vec_names.specs.Params.{IsInRange}
 use Rattle.vec_names.specs.Pointer.{heap_id_bytes}
-use Rattle.vec_tuples.specs.Spelling.{bits_bytes, row_with, entry_bytes, IsEntry, centre_with, centre_bytes, IsCentre}
-use Rattle.vec_tuples.specs.Reading.{bit_value, heap_id, entry, centre}
+use Rattle.vec_tuples.specs.Spelling.{bits_bytes, entry_bytes, IsEntry, centre_bytes, IsCentre}
+use Rattle.vec_tuples.specs.Reading.{entry, centre}
 use Rattle.vec_tuples.proofs.FieldLaws.{IsField, viewed_law, then_law, wider}
 use Rattle.vec_tuples.proofs.EachField.{IsFrom, four_bytes_field, two_bytes_field, row_field, bits_field}
 

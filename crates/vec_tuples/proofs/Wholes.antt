@@ -1,8 +1,8 @@
 -- What a reading says of the tuples that the bytes spell as a whole.
-use Rattle.std.proofs.Common.{◌≡◌, ◌≢◌, ℕ, Bool, true, false, eqb, ◌+◌, ◌-◌, ◌<◌, ◌≤◌, ◌^◌, List, [], ◌∷◌, ◌++◌, length, refl, sym, ap, ap₂, subst, ◌∙◌, arith}
+use Rattle.std.proofs.Common.{◌≡◌, ◌≢◌, ℕ, Bool, true, false, eqb, ◌+◌, ◌-◌, ◌<◌, ◌≤◌, List, [], ◌∷◌, ◌++◌, length, refl, sym, ap, ◌∙◌, arith}
 use Rattle.std.proofs.lemmas.Bool.{eqb-true}
 use Rattle.std.proofs.lemmas.List.{append-nil, length-append}
-use Rattle.vec_tuples.specs.Reading.{Read, Got, Bad, Reader, ◌>>=◌, ended, whole}
+use Rattle.vec_tuples.specs.Reading.{Got, Bad, Reader, ◌>>=◌, ended, whole}
 use Rattle.vec_tuples.proofs.FieldLaws.{AreBytes, IsField, got_is, got_not_bad}
 
 -- that nothing is left, as a test tells it
