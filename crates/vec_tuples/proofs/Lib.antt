@@ -4,3 +4,4 @@ pub mod MetaLaws
 pub mod Wholes
 pub mod Clear
 pub mod RowLaws
+pub mod SlotLaws

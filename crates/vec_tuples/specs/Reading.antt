@@ -1,6 +1,6 @@
 -- Reading a tuple from left to right, field by field, up to the first whose value no tuple with the same earlier
 -- fields has.
-use Rattle.std.specs.Prelude.{ℕ, ◌+◌, ◌*◌, ◌/◌, Bool, not, ◌&&◌, nat_lt, nat_le, ◌==◌, if◌then◌else◌, List, [], ◌∷◌, length, take, drop, slice_index, Option, Some, None}
+use Rattle.std.specs.Prelude.{ℕ, zero, suc, true, false, ◌+◌, ◌*◌, ◌/◌, Bool, not, ◌&&◌, nat_lt, nat_le, ◌==◌, if◌then◌else◌, List, [], ◌∷◌, length, take, drop, slice_index, Option, Some, None}
 use Rattle.std.specs.List.{list_all}
 use Rattle.std.specs.Int.{w16, w32, from_le_bytes}
 use Rattle.vec_names.specs.declared.tid.Tid.{Tid}
@@ -173,3 +173,14 @@ unfoldable pub centre : Params → Reader CentreTuple
 centre p =
     viewed (λ x. centre_with x.0 x.1.0 x.1.1.1)
     (four_bytes_from 0 4294967295 ⨟ four_bytes_from 0 4294967295 ⨟ four_bytes_from 0 0 ⨟ bit_value p.bits)
+
+-- ---- the neighbour tuple
+
+-- so many values one after the other
+unfoldable pub times : {A : Type 0} → Reader A → ℕ → Reader (List A)
+times f zero bytes = Got [] bytes
+times f (suc n) bytes = with_next (λ v vs. v ∷ vs) f (λ _. times f n) bytes
+
+unfoldable pub slot_of : Bool → Reader (Option Tid)
+slot_of false = optional_place
+slot_of true = no_place

@@ -1,5 +1,6 @@
 -- The one spelling of each tuple, field after field. Numbers are little-endian.
-use Rattle.std.specs.Prelude.{◌≡◌, ℕ, ◌+◌, ◌*◌, ◌/◌, ◌≤◌, ◌<◌, ◌^◌, Bool, List, ◌∷◌, ◌++◌, length, Option, Some, None}
+use Rattle.std.specs.Prelude.{◌≡◌, ℕ, ◌+◌, ◌*◌, ◌/◌, ◌≤◌, ◌<◌, ◌^◌, Bool, true, false, List, ◌∷◌, ◌++◌, length, Option, Some, None}
+use Rattle.std.specs.List.{flat_map, AllByRecursion}
 use Rattle.std.specs.Int.{w16, w32, to_le_bytes}
 use Rattle.vec_names.specs.declared.tid.Tid.{Tid}
 use Rattle.vec_names.specs.declared.heap_id.HeapId.{HeapId}
@@ -14,6 +15,7 @@ use Rattle.bit_code.specs.Places.{packed}
 use Rattle.vec_tuples.specs.declared.meta.Meta.{Meta}
 use Rattle.vec_tuples.specs.declared.entry.EntryRow.{EntryRow}
 use Rattle.vec_tuples.specs.declared.centre.CentreTuple.{CentreTuple}
+use Rattle.vec_tuples.specs.declared.links.Links.{Links}
 
 -- ---- the meta tuple
 
@@ -93,3 +95,27 @@ centre_bytes c = to_le_bytes w32 c.first ++ (to_le_bytes w32 c.aim ++ (0 ∷ 0 �
 
 abbrev pub IsCentre : Params → CentreTuple → Type 0
 IsCentre params c = (c.first < 2 ^ 32) × (c.aim < 2 ^ 32) × (length c.bits ≡ params.bits)
+
+-- ---- the neighbour tuple
+
+abbrev pub links_kind : Bool → ℕ
+links_kind false = 2
+links_kind true = 3
+
+unfoldable pub links_bytes : Links → List ℕ
+links_bytes l = links_kind l.deleted ∷ l.version ∷ to_le_bytes w16 (length l.tids) ++ flat_map tid_option_bytes l.tids
+
+-- twice m slots for the lowest layer, and m for each of the level's layers above it
+abbrev pub IsSlotCount : ℕ → ℕ → Type 0
+IsSlotCount m count = (count ≤ 1358) × (level : ℕ) × (level ≤ 255) × (count ≡ (level + 2) * m)
+
+-- a deleted element has no neighbour
+abbrev pub IsSlotOf : Bool → Option Tid → Type 0
+IsSlotOf false slot = Unit {0}
+IsSlotOf true slot = slot ≡ None
+
+pub record IsLinks (p : Params) (l : Links) : Type 0 where
+  pub version_low : 1 ≤ l.version
+  pub version_high : l.version ≤ 255
+  pub count : IsSlotCount p.m (length l.tids)
+  pub slots : AllByRecursion (IsSlotOf l.deleted) l.tids

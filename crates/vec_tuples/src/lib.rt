@@ -7,6 +7,7 @@ mod centre;
 mod entry;
 mod fault;
 mod fields;
+mod links;
 mod meta;
 mod parameters;
 mod pieces;
@@ -15,6 +16,7 @@ mod refused;
 pub use centre::{CentreTuple, read_centre, set_aim, write_centre};
 pub use entry::{EntryRow, fill_entry, read_entry, write_entry};
 pub use fault::TupleFault;
+pub use links::Links;
 pub use meta::{Meta, fill_meta, read_meta, write_meta};
 
 #[cfg(test)]
