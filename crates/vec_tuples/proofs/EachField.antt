@@ -20,11 +20,11 @@ use Rattle.vec_tuples.proofs.FieldLaws.{AreBytes, IsField, field_law, viewed_law
 pub some_is : {A : Type 0} (x y : A) → Some x ≡ Some y → x ≡ y
 some_is x y e = cc
 
-told_only : {A : Type 0} (b : Bool) (v w : A) → only_if b v ≡ Some w → (b ≡ true) × (v ≡ w)
+pub told_only : {A : Type 0} (b : Bool) (v w : A) → only_if b v ≡ Some w → (b ≡ true) × (v ≡ w)
 told_only true v w is = (refl, some_is v w is)
 told_only false v w is = absurd cc
 
-allowed : {A : Type 0} (b : Bool) (v : A) → b ≡ true → only_if b v ≡ Some v
+pub allowed : {A : Type 0} (b : Bool) (v : A) → b ≡ true → only_if b v ≡ Some v
 allowed b v is = rw is refl
 
 -- a number from low to high

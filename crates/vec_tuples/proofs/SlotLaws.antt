@@ -1,13 +1,16 @@
 -- The slots of a neighbour tuple are read as they are spelled.
-use Rattle.std.proofs.Common.{◌≡◌, ℕ, zero, suc, ◌+◌, ◌*◌, ◌<◌, ◌≤◌, Bool, true, false, List, [], ◌∷◌, ◌++◌, length, take, Option, Some, None, refl, sym, ap, subst, ◌∙◌, arith, lit≤}
+use Rattle.std.proofs.Common.{◌≡◌, ℕ, zero, suc, ◌+◌, ◌*◌, ◌/◌, ◌-◌, ◌<◌, ◌≤◌, Bool, true, false, List, [], ◌∷◌, ◌++◌, length, take, Option, Some, None, refl, sym, ap, subst, ◌∙◌, arith, lit≤}
 use Rattle.std.specs.List.{flat_map, AllByRecursion}
 use Rattle.std.proofs.lemmas.List.Concat.{flat_map-cons}
 use Rattle.vec_names.specs.declared.tid.Tid.{Tid}
 use Rattle.vec_names.specs.Pointer.{tid_option_bytes}
-use Rattle.vec_tuples.specs.Spelling.{IsSlotOf}
-use Rattle.vec_tuples.specs.Reading.{Got, Reader, times, slot_of}
-use Rattle.vec_tuples.proofs.FieldLaws.{IsField, got_is, got_not_bad, next_law, wider}
-use Rattle.vec_tuples.proofs.EachField.{optional_field, none_field}
+use Rattle.std.specs.Int.{w16, to_le_bytes, from_le_bytes}
+use Rattle.std.proofs.lemmas.Bool.{and_parts, and_from, leb-true, le-leb, eqb-true, eq-eqb}
+use Rattle.std.proofs.lemmas.Nat.{div-mul-add, le_bytes_2, from_le_bytes-to_le_bytes_2}
+use Rattle.vec_tuples.specs.Spelling.{IsSlotOf, IsSlotCount}
+use Rattle.vec_tuples.specs.Reading.{Got, Reader, field, only_if, times, slot_of, is_slot_count, slot_count}
+use Rattle.vec_tuples.proofs.FieldLaws.{IsField, field_law, got_is, got_not_bad, next_law, wider}
+use Rattle.vec_tuples.proofs.EachField.{told_only, allowed, optional_field, none_field}
 
 pub slot_field : (deleted : Bool) → IsField (slot_of deleted) tid_option_bytes (IsSlotOf deleted) 6
 unfolding slot_of
@@ -47,3 +50,41 @@ module _ {A : Type 0} where
       wider (k + n * k) (suc n * k) (omega arith) (next_law (λ v vs. v ∷ vs) f (λ _. times f n) law (λ _ _. times_field f spell Fits k law n) (flat_map spell) (AreSo Fits (suc n))
       (λ e p. let m = some_more Fits n e p in (m.0, m.1, sym m.2, m.3, m.4, ap (flat_map spell) m.2 ∙ flat_map-cons spell m.0 m.1))
       (λ v vs p q. ((ap suc q.0, (p, q.1)), flat_map-cons spell v vs)))
+
+-- ---- how many slots
+
+slots_told : (m count : ℕ) → is_slot_count m count ≡ true → IsSlotCount m count
+unfolding is_slot_count
+slots_told zero count t = let e = eqb-true count 0 t in (omega (arith, e), 0, omega arith, omega (arith, e))
+slots_told (suc k) count t =
+    let a = and_parts _ _ t in
+    let b = and_parts _ _ a.1 in
+    let c = and_parts _ _ b.1 in
+    let q = count / suc k in
+    let low : 2 ≤ q = leb-true 2 q b.0 in
+    let high : q ≤ 257 = leb-true q 257 c.0 in
+    let level : q ≡ (q - 2) + 2 = omega (arith, low) in
+    (leb-true count 1358 a.0, q - 2, omega (arith, high), sym (eqb-true (q * suc k) count c.1) ∙ ap (λ n. n * suc k) level)
+
+slots_tell : (m count : ℕ) → IsSlotCount m count → is_slot_count m count ≡ true
+unfolding is_slot_count
+slots_tell zero count p = eq-eqb count 0 (p.3 ∙ omega arith)
+slots_tell (suc k) count p =
+    let level = p.1 in
+    let whole : count ≡ (level + 2) * suc k + 0 = omega (arith, p.3) in
+    let q : count / suc k ≡ level + 2 = ap (λ n. n / suc k) whole ∙ div-mul-add (level + 2) (suc k) 0 (omega arith) in
+    and_from _ _ (le-leb count 1358 p.0)
+    (and_from _ _ (le-leb 2 (count / suc k) (omega (arith, q)))
+      (and_from _ _ (le-leb (count / suc k) 257 (omega (arith, q, p.2))) (eq-eqb (count / suc k * suc k) count (ap (λ n. n * suc k) q ∙ sym p.3))))
+
+pub count_field : (m : ℕ) → m ≤ 100 → IsField (slot_count m) (to_le_bytes w16) (IsSlotCount m) 2
+unfolding slot_count
+count_field m few = field_law 2 (λ b. only_if (is_slot_count m (from_le_bytes w16 b)) (from_le_bytes w16 b)) (to_le_bytes w16) (IsSlotCount m) (record {
+  some = lit≤ tt;
+  inhabited = ((0 + 2) * m, (omega (arith, few), 0, omega arith, refl));
+  long = λ v p. refl;
+  meant_by = λ v p. rw (from_le_bytes-to_le_bytes_2 v (omega (arith, p.0))) (allowed _ v (slots_tell m v p));
+  only = λ bytes v len bs is.
+      let t = told_only (is_slot_count m (from_le_bytes w16 bytes)) (from_le_bytes w16 bytes) v is in
+      (sym (le_bytes_2 bytes v len bs (sym t.1)), subst (IsSlotCount m) t.1 (slots_told m (from_le_bytes w16 bytes) t.0));
+})

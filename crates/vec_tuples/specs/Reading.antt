@@ -13,9 +13,10 @@ use Rattle.vec_names.specs.Pointer.{tid_option_in, heap_id_in}
 use Rattle.vec_names.specs.declared.heap_id.HeapId.{HeapId}
 use Rattle.bit_code.specs.Places.{unpacked}
 use Rattle.vec_tuples.specs.declared.meta.Meta.{Meta}
+use Rattle.vec_tuples.specs.declared.links.Links.{Links}
 use Rattle.vec_tuples.specs.declared.entry.EntryRow.{EntryRow}
 use Rattle.vec_tuples.specs.declared.centre.CentreTuple.{CentreTuple}
-use Rattle.vec_tuples.specs.Spelling.{magic, length_word, row_with, centre_with}
+use Rattle.vec_tuples.specs.Spelling.{links_with, magic, length_word, row_with, centre_with}
 
 -- ---- readers
 
@@ -184,3 +185,16 @@ times f (suc n) bytes = with_next (λ v vs. v ∷ vs) f (λ _. times f n) bytes
 unfoldable pub slot_of : Bool → Reader (Option Tid)
 slot_of false = optional_place
 slot_of true = no_place
+
+-- whether there may be so many slots
+unfoldable pub is_slot_count : ℕ → ℕ → Bool
+is_slot_count zero count = count == 0
+is_slot_count (suc k) count = nat_le count 1358 && (nat_le 2 (count / suc k) && (nat_le (count / suc k) 257 && (count / suc k * suc k == count)))
+
+unfoldable pub slot_count : ℕ → Reader ℕ
+slot_count m = field 2 (λ b. only_if (is_slot_count m (from_le_bytes w16 b)) (from_le_bytes w16 b))
+
+unfoldable pub links : Params → Reader Links
+links p =
+    viewed (λ x. links_with (x.0 == 3) x.1.0 x.1.1.1)
+    (and_then (byte_from 2 3) (λ k. byte_from 1 255 ⨟ and_then (slot_count p.m) (times (slot_of (k == 3)))))

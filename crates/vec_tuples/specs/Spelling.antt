@@ -102,6 +102,9 @@ abbrev pub links_kind : Bool → ℕ
 links_kind false = 2
 links_kind true = 3
 
+abbrev pub links_with : Bool → ℕ → List (Option Tid) → Links
+links_with deleted version tids = record { deleted = deleted; version = version; tids = tids }
+
 unfoldable pub links_bytes : Links → List ℕ
 links_bytes l = links_kind l.deleted ∷ l.version ∷ to_le_bytes w16 (length l.tids) ++ flat_map tid_option_bytes l.tids
 
