@@ -5,3 +5,4 @@ pub mod Wholes
 pub mod Clear
 pub mod RowLaws
 pub mod SlotLaws
+pub mod LinksLaws
