@@ -2,9 +2,12 @@
 //! event as bytes.
 #![tactic(auto)]
 
+mod changes;
 mod event;
 mod fault;
+mod fields;
 mod gate;
+mod halt;
 mod stage;
 
 pub use event::{Act, Event};
