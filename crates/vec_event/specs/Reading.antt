@@ -86,6 +86,10 @@ number_of_two = field 2 (λ b. Some (from_le_bytes w16 b))
 unfoldable pub two_bytes_from : ℕ → ℕ → Reader ℕ
 two_bytes_from low high = field 2 (λ b. only_if (nat_le low (from_le_bytes w16 b) && nat_le (from_le_bytes w16 b) high) (from_le_bytes w16 b))
 
+-- two bytes of a number above low
+unfoldable pub two_bytes_above : ℕ → Reader ℕ
+two_bytes_above low = field 2 (λ b. only_if (nat_lt low (from_le_bytes w16 b)) (from_le_bytes w16 b))
+
 -- four bytes of a number from low to high
 unfoldable pub four_bytes_from : ℕ → ℕ → Reader ℕ
 four_bytes_from low high = field 4 (λ b. only_if (nat_le low (from_le_bytes w32 b) && nat_le (from_le_bytes w32 b) high) (from_le_bytes w32 b))
@@ -103,7 +107,7 @@ lists = depending (two_bytes_from 0 1358) (times optional_place)
 -- so many offsets, each above the one before
 unfoldable pub rising : ℕ → ℕ → Reader (List ℕ)
 rising low zero bytes = Got [] bytes
-rising low (suc n) bytes = two_bytes_from (low + 1) 65535 bytes >>= λ v rest. rising v n rest >>= λ vs rest'. Got (v ∷ vs) rest'
+rising low (suc n) bytes = two_bytes_above low bytes >>= λ v rest. rising v n rest >>= λ vs rest'. Got (v ∷ vs) rest'
 
 unfoldable pub offsets : Reader (List ℕ)
 offsets = depending (two_bytes_from 1 65535) (rising 0)

@@ -1,7 +1,7 @@
 //! The fields of events, each read from the front of the bytes.
 
-ghost use Rattle.std.specs.Prelude.{◌≡◌, ◌<◌, ◌^◌, length};
-ghost use Rattle.vec_event.specs.Reading.{kind, byte, version, place, optional_place, heap_id, number_of_two, two_bytes_from, four_bytes_from, level_of};
+ghost use Rattle.std.specs.Prelude.{◌≡◌, ◌≤◌, length, IfOk};
+ghost use Rattle.vec_event.specs.Reading.{kind, byte, version, place, optional_place, heap_id, number_of_two, two_bytes_from, two_bytes_above, four_bytes_from, level_of};
 ghost use Rattle.vec_event.specs.Answers.{Gives};
 
 use crate::halt::Halt;
@@ -120,14 +120,31 @@ pub fn number_of_two(bytes: &[u8]) -> Result<(u16, &[u8]), Halt>
 
 /// A number of two bytes from `low` to `high`.
 #[tactic(auto, unfolding(crate::specs::Reading::two_bytes_from, crate::specs::Reading::field))]
-pub fn two_bytes_from(low: u32, high: u16, bytes: &[u8]) -> Result<(u16, &[u8]), Halt>
-    ensures { Gives (λ x. (x.0, x.1.now)) result (two_bytes_from low high bytes.now) }
+pub fn two_bytes_from(low: u16, high: u16, bytes: &[u8]) -> Result<(u16, &[u8]), Halt>
+    ensures reads { Gives (λ x. (x.0, x.1.now)) result (two_bytes_from low high bytes.now) }
+    ensures range { IfOk result (λ x. (low ≤ x.0) × (x.0 ≤ high)) }
 {
     let Some((front, rest)) = bytes.split_first_chunk::<2>() else {
         return Err(Halt::Short);
     };
     let number = u16::from_le_bytes(*front);
-    if u32::from(number) >= low && number <= high {
+    if number >= low && number <= high {
+        Ok((number, rest))
+    } else {
+        Err(Halt::Bad { left: bytes.len() })
+    }
+}
+
+/// A number of two bytes above `low`.
+#[tactic(auto, unfolding(crate::specs::Reading::two_bytes_above, crate::specs::Reading::field))]
+pub fn two_bytes_above(low: u16, bytes: &[u8]) -> Result<(u16, &[u8]), Halt>
+    ensures { Gives (λ x. (x.0, x.1.now)) result (two_bytes_above low bytes.now) }
+{
+    let Some((front, rest)) = bytes.split_first_chunk::<2>() else {
+        return Err(Halt::Short);
+    };
+    let number = u16::from_le_bytes(*front);
+    if number > low {
         Ok((number, rest))
     } else {
         Err(Halt::Bad { left: bytes.len() })
@@ -137,7 +154,8 @@ pub fn two_bytes_from(low: u32, high: u16, bytes: &[u8]) -> Result<(u16, &[u8]),
 /// A number of four bytes from `low` to `high`.
 #[tactic(auto, unfolding(crate::specs::Reading::four_bytes_from, crate::specs::Reading::field))]
 pub fn four_bytes_from(low: u32, high: u32, bytes: &[u8]) -> Result<(u32, &[u8]), Halt>
-    ensures { Gives (λ x. (x.0, x.1.now)) result (four_bytes_from low high bytes.now) }
+    ensures reads { Gives (λ x. (x.0, x.1.now)) result (four_bytes_from low high bytes.now) }
+    ensures range { IfOk result (λ x. (low ≤ x.0) × (x.0 ≤ high)) }
 {
     let Some((front, rest)) = bytes.split_first_chunk::<4>() else {
         return Err(Halt::Short);

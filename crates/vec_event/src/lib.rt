@@ -3,6 +3,7 @@
 #![tactic(auto)]
 
 mod changes;
+mod counted;
 mod event;
 mod fault;
 mod fields;
