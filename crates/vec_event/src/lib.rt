@@ -9,6 +9,7 @@ mod fault;
 mod fields;
 mod gate;
 mod halt;
+mod reading;
 mod stage;
 
 pub use event::{Act, Event};
