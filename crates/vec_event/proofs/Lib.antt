@@ -1,2 +1,4 @@
 pub mod Clear
 pub mod Loops
+pub mod Packing
+pub mod FieldLaws

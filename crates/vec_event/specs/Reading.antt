@@ -37,12 +37,20 @@ told n bytes (Some v) = Got v (drop n bytes)
 unfoldable pub field : {A : Type 0} → ℕ → (List ℕ → Option A) → Reader A
 field n meant bytes = if nat_lt (length bytes) n then Short else told n bytes (meant (take n bytes))
 
+-- a field, then one that may depend on it, and what the two make
+abbrev pub with_next : {A B C : Type 0} → (A → B → C) → Reader A → (A → Reader B) → Reader C
+with_next made f g bytes = f bytes >>= λ v rest. g v rest >>= λ w rest'. Got (made v w) rest'
+
+-- both of them
+abbrev pub and_then : {A B : Type 0} → Reader A → (A → Reader B) → Reader (A × B)
+and_then f g = with_next (λ v w. (v, w)) f g
+
 -- a field, and then another one
 infixr 10 ◌⨟◌
 abbrev pub ◌⨟◌ : {A B : Type 0} → Reader A → Reader B → Reader (A × B)
-(f ⨟ g) bytes = f bytes >>= λ v rest. g rest >>= λ w rest'. Got (v, w) rest'
+f ⨟ g = and_then f (λ _. g)
 
--- a field, and then what depends on it
+-- a field that the value is not to have, as a count, and then what depends on it
 abbrev pub depending : {A B : Type 0} → Reader A → (A → Reader B) → Reader B
 depending f g bytes = f bytes >>= g
 
@@ -53,7 +61,7 @@ viewed view f bytes = f bytes >>= λ v rest. Got (view v) rest
 -- so many values one after the other
 unfoldable pub times : {A : Type 0} → Reader A → ℕ → Reader (List A)
 times f zero bytes = Got [] bytes
-times f (suc n) bytes = f bytes >>= λ v rest. times f n rest >>= λ vs rest'. Got (v ∷ vs) rest'
+times f (suc n) bytes = with_next (λ v vs. v ∷ vs) f (λ _. times f n) bytes
 
 -- ---- fields
 
@@ -107,7 +115,7 @@ lists = depending (two_bytes_from 0 1358) (times optional_place)
 -- so many offsets, each above the one before
 unfoldable pub rising : ℕ → ℕ → Reader (List ℕ)
 rising low zero bytes = Got [] bytes
-rising low (suc n) bytes = two_bytes_above low bytes >>= λ v rest. rising v n rest >>= λ vs rest'. Got (v ∷ vs) rest'
+rising low (suc n) bytes = with_next (λ v vs. v ∷ vs) (two_bytes_above low) (λ v. rising v n) bytes
 
 unfoldable pub offsets : Reader (List ℕ)
 offsets = depending (two_bytes_from 1 65535) (rising 0)
@@ -140,7 +148,7 @@ unfoldable pub mark : Reader Event
 mark = viewed (λ x. events.Mark x.0 x.1.0 x.1.1) (place ⨟ place ⨟ version)
 
 unfoldable pub entry : Reader Event
-entry = depending optional_place (λ to. viewed (events.Entry to) (level_of to))
+entry = viewed (λ x. events.Entry x.0 x.1) (and_then optional_place level_of)
 
 unfoldable pub hint : Reader Event
 hint = viewed events.Hint (four_bytes_from 0 32768)
