@@ -1,9 +1,9 @@
 -- What holds of a reader and the spelling that it reads.
-use Rattle.std.proofs.Common.{◌≡◌, ℕ, zero, suc, ◌+◌, ◌-◌, ◌<◌, ◌≤◌, Bool, true, false, cond, ltb, List, [], ◌∷◌, ◌++◌, length, get_or, take, drop, Option, Some, None, refl, sym, ap, ap₂, subst, ◌∙◌, append_assoc, arith, ◌⊎◌, inl, inr}
+use Rattle.std.proofs.Common.{◌≡◌, ℕ, zero, suc, ◌+◌, ◌-◌, ◌<◌, ◌≤◌, Bool, true, false, cond, ltb, List, [], ◌∷◌, ◌++◌, length, get_or, take, drop, Option, Some, None, refl, sym, ap, ap₂, subst, ◌∙◌, append_assoc, arith, ◌⊎◌, inl, inr, lit≤}
 use Rattle.std.proofs.lemmas.Bool.{ltb-false, le-ltb}
 use Rattle.std.proofs.lemmas.List.{append-nil, length-append, length-take, take-append-drop, take_at, drop_at, take-append-le, get_or-drop, get_or-take, get_or_past}
 use Rattle.std.proofs.lemmas.Bool.{cases_lt}
-use Rattle.vec_event.specs.Reading.{Read, Got, Bad, Short, Reader, ◌>>=◌, told, field, with_next}
+use Rattle.vec_event.specs.Reading.{Read, Got, Bad, Short, Reader, ◌>>=◌, told, field, with_next, viewed, depending, ◌⨟◌}
 
 -- each is a byte
 abbrev pub AreBytes : List ℕ → Type 0
@@ -39,7 +39,7 @@ bad_is m n e = cc
 pub got_is : {A : Type 0} (v w : A) (a b : List ℕ) → Got v a ≡ Got w b → (v ≡ w) × (a ≡ b)
 got_is v w a b e = (cc, cc)
 
-got_not_bad : {A : Type 0} {v : A} {rest : List ℕ} {left : ℕ} → Got v rest ≡ Bad left → ⊥
+pub got_not_bad : {A : Type 0} {v : A} {rest : List ℕ} {left : ℕ} → Got v rest ≡ Bad left → ⊥
 got_not_bad e = cc
 
 module _ {A B : Type 0} where
@@ -82,7 +82,7 @@ module _ {A : Type 0} (n : ℕ) (meant : List ℕ → Option A) where
   unfolding field
   field_law spell Fits means = record {
     takes = λ bytes v rest bs is.
-        let g = long_got _ _ v rest is in
+        let g = long_got (ltb (length bytes) n) (told n bytes (meant (take n bytes))) v rest is in
         let t = told_got bytes (meant (take n bytes)) v rest g.1 in
         let len : length (take n bytes) ≡ n = omega (arith, length-take n bytes, ltb-false _ _ g.0) in
         let o = means.only (take n bytes) v len (AreBytes-take n bytes bs) t.0 in
@@ -93,10 +93,10 @@ module _ {A : Type 0} (n : ℕ) (meant : List ℕ → Option A) where
         rw (enough, take_at (spell v) rest n len, means.meant_by v fits, drop_at (spell v) rest n len) refl;
     small = λ v fits. omega (arith, means.long v fits);
     near = λ bytes left bs is.
-        let t = told_bad bytes (meant (take n bytes)) left (long_bad _ _ left is).1 in
+        let t = told_bad bytes (meant (take n bytes)) left (long_bad (ltb (length bytes) n) (told n bytes (meant (take n bytes))) left is).1 in
         (omega (arith, t.1), omega (arith, t.1));
     stays = λ bytes more left bs is.
-        let g = long_bad _ _ left is in
+        let g = long_bad (ltb (length bytes) n) (told n bytes (meant (take n bytes))) left is in
         let t = told_bad bytes (meant (take n bytes)) left g.1 in
         let long : n ≤ length bytes = ltb-false _ _ g.0 in
         let enough : ltb (length (bytes ++ more)) n ≡ false = le-ltb _ _ (omega (arith, length-append bytes more)) in
@@ -155,3 +155,75 @@ module _ {A B C : Type 0} (made : A → B → C) (f : Reader A) (g : A → Reade
             ]
         ];
   }
+
+-- ---- the same as another value
+
+nothing : Reader (Unit {0})
+nothing bytes = Got tt bytes
+
+nothing_law : IsField nothing (λ _. []) (λ _. Unit {0}) 0
+unfolding nothing
+nothing_law = record {
+  takes = λ bytes v rest bs is. ((got_is tt v bytes rest is).1, tt);
+  again = λ v rest fits. refl;
+  small = λ v fits. lit≤ tt;
+  near = λ bytes left bs is. absurd (got_not_bad is);
+  stays = λ bytes more left bs is. absurd (got_not_bad is);
+}
+
+module _ {B C : Type 0} (view : B → C) (f : Reader B) where
+  pub viewed_law : {t : B → List ℕ} {Q : B → Type 0} {j : ℕ} → IsField f t Q j → (u : C → List ℕ) (R : C → Type 0)
+      → ((e : C) → R e → (w : B) × (view w ≡ e) × Q w × (u e ≡ t w)) → ((w : B) → Q w → R (view w) × (u (view w) ≡ t w)) → IsField (viewed view f) u R (j + 0)
+  unfolding nothing
+  viewed_law {t} {Q} {j} law u R parts whole =
+      next_law (λ w _. view w) f (λ _. nothing) law (λ _ _. nothing_law) u R
+          (λ e fits. let p = parts e fits in (p.0, tt, p.1, p.2, tt, p.3 ∙ sym (append-nil (t p.0))))
+          (λ w _ fits _. let p = whole w fits in (p.0, p.1 ∙ sym (append-nil (t w))))
+
+-- ---- a field that the value is not to have
+
+bound : {B : Type 0} (r : Read B) → (r >>= λ w rest. Got w rest) ≡ r
+bound (Got w rest) = refl
+bound (Bad left) = refl
+bound Short = refl
+
+same_law : {A : Type 0} (f g : Reader A) {s : A → List ℕ} {P : A → Type 0} {k : ℕ} → ((bytes : List ℕ) → f bytes ≡ g bytes) → IsField f s P k → IsField g s P k
+same_law f g same law = record {
+  takes = λ bytes v rest bs is. law.takes bytes v rest bs (same bytes ∙ is);
+  again = λ v rest fits. sym (same _) ∙ law.again v rest fits;
+  small = law.small;
+  near = λ bytes left bs is. law.near bytes left bs (same bytes ∙ is);
+  stays = λ bytes more left bs is. sym (same _) ∙ law.stays bytes more left bs (same bytes ∙ is);
+}
+
+module _ {A B : Type 0} (f : Reader A) (g : A → Reader B) where
+  go_on : (r : Read A) → (r >>= λ v rest. g v rest >>= λ w rest'. Got w rest') ≡ (r >>= g)
+  go_on (Got v rest) = bound (g v rest)
+  go_on (Bad left) = refl
+  go_on Short = refl
+
+  pub depending_law : {s : A → List ℕ} {P : A → Type 0} {k : ℕ} {t : B → List ℕ} {Q : A → B → Type 0} {j : ℕ}
+      → IsField f s P k → ((v : A) → P v → IsField (g v) t (Q v) j) → (u : B → List ℕ) (R : B → Type 0)
+      → ((e : B) → R e → (v : A) × P v × Q v e × (u e ≡ s v ++ t e)) → ((v : A) (w : B) → P v → Q v w → R w × (u w ≡ s v ++ t w)) → IsField (depending f g) u R (k + j)
+  depending_law first second u R parts whole =
+      same_law (with_next (λ v w. w) f g) (depending f g) (λ bytes. go_on (f bytes))
+          (next_law (λ v w. w) f g first second u R (λ e fits. let p = parts e fits in (p.0, e, refl, p.1, p.2, p.3)) whole)
+
+-- ---- a field, and then another one
+
+module _ {A B : Type 0} {f : Reader A} {g : Reader B} where
+  pub then_law : {s : A → List ℕ} {P : A → Type 0} {k : ℕ} {t : B → List ℕ} {Q : B → Type 0} {j : ℕ}
+      → IsField f s P k → IsField g t Q j → IsField (f ⨟ g) (λ p. s p.0 ++ t p.1) (λ p. P p.0 × Q p.1) (k + j)
+  then_law first second =
+      next_law (λ v w. (v, w)) f (λ _. g) first (λ _ _. second) _ _ (λ e fits. (e.0, e.1, refl, fits.0, fits.1, refl)) (λ v w p q. ((p, q), refl))
+
+-- ---- with more room
+
+pub wider : {A : Type 0} {f : Reader A} {s : A → List ℕ} {P : A → Type 0} (k m : ℕ) → k ≤ m → IsField f s P k → IsField f s P m
+wider k m le law = record {
+  takes = law.takes;
+  again = law.again;
+  small = λ v fits. omega (arith, law.small v fits);
+  near = λ bytes left bs is. let n = law.near bytes left bs is in (n.0, omega (arith, n.1));
+  stays = law.stays;
+}
