@@ -4,3 +4,5 @@ pub mod Packing
 pub mod FieldLaws
 pub mod EachField
 pub mod CountedFields
+pub mod EachKind
+pub mod EachEvent
