@@ -6,3 +6,4 @@ pub mod EachField
 pub mod CountedFields
 pub mod EachKind
 pub mod EachEvent
+pub mod Readings

@@ -10,9 +10,12 @@ mod fields;
 mod gate;
 mod halt;
 mod reading;
+mod sizes;
 mod stage;
 
 pub use event::{Act, Event};
 pub use fault::EventFault;
 pub use gate::{Gate, Hold};
+pub use reading::read_event;
+pub use sizes::event_size;
 pub use stage::Stage;
