@@ -128,7 +128,7 @@ place_field = field_law 6 tid_in tid_bytes (λ _. ⊤) (record {
   only = λ bytes t len bs is. (sym (pointer_bytes-back bytes len bs) ∙ tid_of-spelled (block_in bytes) (off_in bytes) (Some t) (sym is), tt);
 })
 
-length-tid_option_bytes : (o : Option Tid) → length (tid_option_bytes o) ≡ 6
+pub length-tid_option_bytes : (o : Option Tid) → length (tid_option_bytes o) ≡ 6
 length-tid_option_bytes None = length-pointer_bytes 0xFFFFFFFF 0
 length-tid_option_bytes (Some t) = length-pointer_bytes t.block t.off
 

@@ -7,3 +7,4 @@ pub mod CountedFields
 pub mod EachKind
 pub mod EachEvent
 pub mod Readings
+pub mod Lengths

@@ -17,5 +17,6 @@ pub use event::{Act, Event};
 pub use fault::EventFault;
 pub use gate::{Gate, Hold};
 pub use reading::read_event;
+
 pub use sizes::event_size;
 pub use stage::Stage;
