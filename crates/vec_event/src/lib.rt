@@ -9,6 +9,7 @@ mod fault;
 mod fields;
 mod gate;
 mod halt;
+mod pieces;
 mod reading;
 mod sizes;
 mod stage;
