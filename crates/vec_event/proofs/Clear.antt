@@ -25,7 +25,7 @@ clear_digits (suc k) n =
     let more : k + 1 ≡ suc k = omega arith in
     let parts : n % 2 ^ suc k ≡ (n / 2 % 2 ^ k) * 2 + n % 2 = subst (λ m. n % 2 ^ m ≡ (n / 2 % 2 ^ k) * 2 + n % 2) more (mod-pow-add n k 1) in
     list_all-append not (places k (n / 2)) (eqb (n % 2) 1 ∷ []) ∙ ap (λ b. b && (not (eqb (n % 2) 1) && true)) (clear_digits k (n / 2))
-      ∙ digit_clear (n / 2 % 2 ^ k) (n % 2) (omega arith) ∙ ap (λ m. eqb m 0) (sym parts)
+    ∙ digit_clear (n / 2 % 2 ^ k) (n % 2) (omega arith) ∙ ap (λ m. eqb m 0) (sym parts)
 
 -- without the first digits the lowest are left
 low_places : (j k n : ℕ) → drop j (places (j + k) n) ≡ places k n
@@ -49,7 +49,7 @@ clear_last (b ∷ []) count last some is le lt =
 clear_last (b ∷ c ∷ bs) count last some is le lt =
     let k : length (places 8 b) + (count - 8) ≡ count = omega (arith, length-places 8 b) in
     let past : drop count (places 8 b ++ unpacked (c ∷ bs)) ≡ drop (count - 8) (unpacked (c ∷ bs)) =
-        subst (λ m. drop m (places 8 b ++ unpacked (c ∷ bs)) ≡ drop (count - 8) (unpacked (c ∷ bs))) k (drop-append-add (places 8 b) (unpacked (c ∷ bs)) (count - 8)) in
+    subst (λ m. drop m (places 8 b ++ unpacked (c ∷ bs)) ≡ drop (count - 8) (unpacked (c ∷ bs))) k (drop-append-add (places 8 b) (unpacked (c ∷ bs)) (count - 8)) in
     let at : length (b ∷ c ∷ bs) - 1 ≡ suc (length (c ∷ bs) - 1) = omega arith in
     let unused : 8 * length (c ∷ bs) - (count - 8) ≡ 8 * length (b ∷ c ∷ bs) - count = omega arith in
     rw past (clear_last (c ∷ bs) (count - 8) last (omega arith) (is ∙ ap (λ i. get_or (b ∷ c ∷ bs) i 0) at) (omega arith) (omega arith) ∙ ap (λ m. eqb (last % 2 ^ m) 0) unused)

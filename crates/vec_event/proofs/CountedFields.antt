@@ -1,8 +1,9 @@
 -- Fields that begin with a count are read as they are spelled.
-use Rattle.std.proofs.Common.{◌≡◌, ℕ, zero, suc, ◌+◌, ◌*◌, ◌/◌, ◌<◌, ◌≤◌, ◌^◌, Bool, List, [], ◌∷◌, ◌++◌, length, Option, refl, sym, ap, subst, ◌∙◌, arith, lit<, lit≤}
+use Rattle.std.proofs.Common.{◌≡◌, ℕ, zero, suc, ◌+◌, ◌*◌, ◌/◌, ◌<◌, ◌≤◌, ◌^◌, Bool, List, [], ◌∷◌, ◌++◌, length, get_or, Option, refl, sym, ap, subst, ◌∙◌, arith, lit<, lit≤}
 use Rattle.std.specs.Prelude.{⊤, All}
 use Rattle.std.specs.List.{flat_map, AllByRecursion}
 use Rattle.std.specs.Int.{w16, w32, to_le_bytes}
+use Rattle.std.proofs.lemmas.List.{get_or_default}
 use Rattle.std.proofs.lemmas.List.Concat.{flat_map-cons}
 use Rattle.std.proofs.lemmas.List.Elements.{All-from_recursion, recursion_from_All}
 use Rattle.bit_code.specs.Places.{packed}
@@ -19,8 +20,8 @@ pub bits_field : IsField bits bits_bytes AreBits (4 + 8000)
 unfolding bits
 bits_field =
     depending_law (four_bytes_from 1 64000) packed_places (four_bytes_field 1 64000 (lit< tt)) (λ n p. wider ((n + 7) / 8) 8000 (omega (arith, p.1)) (packed_field n p.0 p.1)) bits_bytes AreBits
-        (λ e fits. (length e, fits, refl, refl))
-        (λ n xs p q. (subst (λ k. (1 ≤ k) × (k ≤ 64000)) (sym q) p, ap (λ k. to_le_bytes w32 k ++ packed xs) q))
+    (λ e fits. (length e, fits, refl, refl))
+    (λ n xs p q. (subst (λ k. (1 ≤ k) × (k ≤ 64000)) (sym q) p, ap (λ k. to_le_bytes w32 k ++ packed xs) q))
 
 -- ---- so many values
 
@@ -50,16 +51,16 @@ module _ {A : Type 0} where
   times_field f spell k law zero = wider 0 (0 * k) (omega arith) (none_field (times f zero) (λ bytes. refl) (flat_map spell) (λ v. length v ≡ 0) refl refl no_more)
   times_field f spell k law (suc n) =
       wider (k + n * k) (suc n * k) (omega arith) (next_law (λ v vs. v ∷ vs) f (λ _. times f n) law (λ _ _. times_field f spell k law n) (flat_map spell) (λ v. length v ≡ suc n)
-          (λ e p. let m = some_more n e p in (m.0, m.1, sym m.2, tt, m.3, ap (flat_map spell) m.2 ∙ flat_map-cons spell m.0 m.1))
-          (λ v vs _ q. (ap suc q, flat_map-cons spell v vs)))
+      (λ e p. let m = some_more n e p in (m.0, m.1, sym m.2, tt, m.3, ap (flat_map spell) m.2 ∙ flat_map-cons spell m.0 m.1))
+      (λ v vs _ q. (ap suc q, flat_map-cons spell v vs)))
 
 pub lists_field : IsField lists lists_bytes (λ v. length v ≤ 1358) (2 + 1358 * 6)
 unfolding lists
 lists_field =
     depending_law (two_bytes_from 0 1358) (times optional_place) (two_bytes_field 0 1358 (lit< tt))
-        (λ n p. wider (n * 6) (1358 * 6) (omega (arith, p.1)) (times_field optional_place tid_option_bytes 6 optional_place_field n)) lists_bytes (λ v. length v ≤ 1358)
-        (λ e fits. (length e, (omega arith, fits), refl, refl))
-        (λ n v p q. (subst (λ k. k ≤ 1358) (sym q) p.1, ap (λ k. to_le_bytes w16 k ++ flat_map tid_option_bytes v) q))
+    (λ n p. wider (n * 6) (1358 * 6) (omega (arith, p.1)) (times_field optional_place tid_option_bytes 6 optional_place_field n)) lists_bytes (λ v. length v ≤ 1358)
+    (λ e fits. (length e, (omega arith, fits), refl, refl))
+    (λ n v p q. (subst (λ k. k ≤ 1358) (sym q) p.1, ap (λ k. to_le_bytes w16 k ++ flat_map tid_option_bytes v) q))
 
 -- ---- offsets that rise
 
@@ -78,8 +79,8 @@ rising_field zero low =
     wider 0 (0 * 2) (omega arith) (none_field (rising low zero) (λ bytes. refl) (flat_map (to_le_bytes w16)) (λ v. (length v ≡ 0) × Offsets low v) refl (refl, tt) (λ v p. no_more v p.0))
 rising_field (suc n) low =
     wider (2 + n * 2) (suc n * 2) (omega arith) (next_law (λ v vs. v ∷ vs) (two_bytes_above low) (λ v. rising v n) (above_field low) (λ v _. rising_field n v) (flat_map (to_le_bytes w16)) (λ v. (length v ≡ suc n) × Offsets low v)
-        (λ e p. let m = rising_more n low e p in (m.0, m.1, sym m.2, m.3, (m.4, m.5), ap (flat_map (to_le_bytes w16)) m.2 ∙ flat_map-cons (to_le_bytes w16) m.0 m.1))
-        (λ v vs p q. ((ap suc q.0, (p, q.1)), flat_map-cons (to_le_bytes w16) v vs)))
+    (λ e p. let m = rising_more n low e p in (m.0, m.1, sym m.2, m.3, (m.4, m.5), ap (flat_map (to_le_bytes w16)) m.2 ∙ flat_map-cons (to_le_bytes w16) m.0 m.1))
+    (λ v vs p q. ((ap suc q.0, (p, q.1)), flat_map-cons (to_le_bytes w16) v vs)))
 
 few_offsets : (low : ℕ) (v : List ℕ) → low < 2 ^ 16 → Offsets low v → low + length v < 2 ^ 16
 few_offsets low [] small p = omega arith
@@ -89,8 +90,8 @@ pub offsets_field : IsField offsets offsets_bytes (λ v. (1 ≤ length v) × Off
 unfolding offsets
 offsets_field =
     depending_law (two_bytes_from 1 65535) (rising 0) (two_bytes_field 1 65535 (lit< tt)) (λ n p. wider (n * 2) (65535 * 2) (omega (arith, p.1)) (rising_field n 0)) offsets_bytes (λ v. (1 ≤ length v) × Offsets 0 v)
-        (λ e fits. (length e, (fits.0, omega (arith, few_offsets 0 e (lit< tt) fits.1)), (refl, fits.1), refl))
-        (λ n v p q. ((subst (λ k. 1 ≤ k) (sym q.0) p.0, q.1), ap (λ k. to_le_bytes w16 k ++ flat_map (to_le_bytes w16) v) q.0))
+    (λ e fits. (length e, (fits.0, omega (arith, few_offsets 0 e (lit< tt) fits.1)), (refl, fits.1), refl))
+    (λ n v p q. ((subst (λ k. 1 ≤ k) (sym q.0) p.0, q.1), ap (λ k. to_le_bytes w16 k ++ flat_map (to_le_bytes w16) v) q.0))
 
 -- ---- offsets as the events' definitions speak of them
 
@@ -114,3 +115,7 @@ rising_offsets low (x ∷ xs) p = (p.0.0, rising_offsets x xs p.1)
 
 pub few_rising : (v : List ℕ) → RisesFrom 0 v → All (λ off. off < 2 ^ 16) v → length v < 2 ^ 16
 few_rising v rises small = omega (arith, few_offsets 0 v (lit< tt) (Offsets-from v rises small))
+
+-- offsets of two bytes each that rise are less than 2 ^ 16 in number
+pub few_offsets_at : (v : List ℕ) → RisesFrom 0 v → ((i : ℕ) → get_or v i 0 < 2 ^ 16) → length v < 2 ^ 16
+few_offsets_at v rises small = few_rising v rises (λ k d lt. rw (get_or_default v k d 0 lt) (small k))

@@ -52,5 +52,5 @@ pub event_field : IsField event spelling (λ e. IsTyped e × IsWritable e) (1 + 
 unfolding event
 event_field =
     depending_law kind fields_of kind_field each_kind spelling (λ e. IsTyped e × IsWritable e)
-        (λ e fits. let b = begins e fits.1 in (kind_of e, (b.0, b.1), (refl, fits.0, fits.1), b.2))
-        (λ k e p q. let b = begins e q.2 in ((q.1, q.2), b.2 ∙ ap (λ n. one_byte n ++ fields_bytes e) q.0))
+    (λ e fits. let b = begins e fits.1 in (kind_of e, (b.0, b.1), (refl, fits.0, fits.1), b.2))
+    (λ k e p q. let b = begins e q.2 in ((q.1, q.2), b.2 ∙ ap (λ n. one_byte n ++ fields_bytes e) q.0))

@@ -59,7 +59,7 @@ pub kind_field : IsField kind one_byte (λ v. (1 ≤ v) × (v ≤ 12)) 1
 unfolding kind
 kind_field =
     byte_law (λ v. leb 1 v && leb v 12) (λ v. (1 ≤ v) × (v ≤ 12)) (λ v p. and_from _ _ (le-leb 1 v p.0) (le-leb v 12 p.1)) (λ v p. omega (arith, p.1))
-        (λ v t _. let b = and_parts _ _ t in (leb-true 1 v b.0, leb-true v 12 b.1))
+    (λ v t _. let b = and_parts _ _ t in (leb-true 1 v b.0, leb-true v 12 b.1))
 
 -- a level that may stand beside an entry point
 abbrev pub FitsLevel : Option Tid → ℕ → Type 0
@@ -105,7 +105,7 @@ pub two_bytes_field : (low high : ℕ) → high < 2 ^ 16 → IsField (two_bytes_
 unfolding two_bytes_from
 two_bytes_field low high small =
     two_bytes_law (λ v. leb low v && leb v high) (IsFrom low high) (λ v p. and_from _ _ (le-leb low v p.0) (le-leb v high p.1))
-        (λ v t _. let b = and_parts _ _ t in (leb-true low v b.0, leb-true v high b.1)) (λ v p. omega (arith, p.1, small))
+    (λ v t _. let b = and_parts _ _ t in (leb-true low v b.0, leb-true v high b.1)) (λ v p. omega (arith, p.1, small))
 
 pub above_field : (low : ℕ) → IsField (two_bytes_above low) (to_le_bytes w16) (λ v. (low < v) × (v < 2 ^ 16)) 2
 unfolding two_bytes_above
@@ -116,7 +116,7 @@ pub four_bytes_field : (low high : ℕ) → high < 2 ^ 32 → IsField (four_byte
 unfolding four_bytes_from
 four_bytes_field low high small =
     four_bytes_law (λ v. leb low v && leb v high) (IsFrom low high) (λ v p. and_from _ _ (le-leb low v p.0) (le-leb v high p.1))
-        (λ v t _. let b = and_parts _ _ t in (leb-true low v b.0, leb-true v high b.1)) (λ v p. omega (arith, p.1, small))
+    (λ v t _. let b = and_parts _ _ t in (leb-true low v b.0, leb-true v high b.1)) (λ v p. omega (arith, p.1, small))
 
 -- ---- places and rows
 

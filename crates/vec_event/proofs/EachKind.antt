@@ -47,7 +47,7 @@ pub put_field : IsField put fields_bytes (OfKind 1) 200000
 unfolding put spelling IsTyped IsWritable
 put_field =
     up_to (viewed_law put_of (place ⨟ place ⨟ version ⨟ byte ⨟ heap_id ⨟ bits ⨟ lists) (then_law place_field (then_law place_field (then_law version_field (then_law byte_field (then_law heap_id_field (then_law bits_field lists_field)))))) fields_bytes (OfKind 1) put_parts
-        (λ x q. ((refl, (q.1.1.0.1, q.1.1.1.0, q.1.1.1.1.1.0), (q.1.1.0.0, q.1.1.1.1.1.1)), refl))) (lit≤ tt)
+    (λ x q. ((refl, (q.1.1.0.1, q.1.1.1.0, q.1.1.1.1.1.0), (q.1.1.0.0, q.1.1.1.1.1.1)), refl))) (lit≤ tt)
 
 -- ---- Join
 
@@ -63,7 +63,7 @@ pub join_field : IsField join fields_bytes (OfKind 2) 200000
 unfolding join spelling IsTyped IsWritable
 join_field =
     up_to (viewed_law join_of (place ⨟ version ⨟ heap_id) (then_law place_field (then_law version_field heap_id_field)) fields_bytes (OfKind 2) join_parts
-        (λ x q. ((refl, q.1.0.1, q.1.0.0), refl))) (lit≤ tt)
+    (λ x q. ((refl, q.1.0.1, q.1.0.0), refl))) (lit≤ tt)
 
 -- ---- Link
 
@@ -79,7 +79,7 @@ pub link_field : IsField link fields_bytes (OfKind 3) 200000
 unfolding link spelling IsTyped IsWritable
 link_field =
     up_to (viewed_law link_of (place ⨟ place ⨟ version ⨟ number_of_two ⨟ place) (then_law place_field (then_law place_field (then_law version_field (then_law number_field place_field)))) fields_bytes (OfKind 3) link_parts
-        (λ x q. ((refl, (q.1.1.0.1, q.1.1.1.0), q.1.1.0.0), refl))) (lit≤ tt)
+    (λ x q. ((refl, (q.1.1.0.1, q.1.1.1.0), q.1.1.0.0), refl))) (lit≤ tt)
 
 -- ---- Relist
 
@@ -95,7 +95,7 @@ pub relist_field : IsField relist fields_bytes (OfKind 4) 200000
 unfolding relist spelling IsTyped IsWritable
 relist_field =
     up_to (viewed_law relist_of (place ⨟ place ⨟ version ⨟ lists) (then_law place_field (then_law place_field (then_law version_field lists_field))) fields_bytes (OfKind 4) relist_parts
-        (λ x q. ((refl, q.1.1.0.1, (q.1.1.0.0, q.1.1.1)), refl))) (lit≤ tt)
+    (λ x q. ((refl, q.1.1.0.1, (q.1.1.0.0, q.1.1.1)), refl))) (lit≤ tt)
 
 -- ---- Drop
 
@@ -111,7 +111,7 @@ pub drop_ids_field : IsField drop_ids fields_bytes (OfKind 5) 200000
 unfolding drop_ids spelling IsTyped IsWritable
 drop_ids_field =
     up_to (viewed_law drop_ids_of (place ⨟ version ⨟ two_bytes_from 1 1023) (then_law place_field (then_law version_field (two_bytes_field 1 1023 (lit< tt)))) fields_bytes (OfKind 5) drop_ids_parts
-        (λ x q. ((refl, q.1.0.1, (q.1.0.0, q.1.1.0, q.1.1.1)), refl))) (lit≤ tt)
+    (λ x q. ((refl, q.1.0.1, (q.1.0.0, q.1.1.0, q.1.1.1)), refl))) (lit≤ tt)
 
 -- ---- Mark
 
@@ -127,7 +127,7 @@ pub mark_field : IsField mark fields_bytes (OfKind 6) 200000
 unfolding mark spelling IsTyped IsWritable
 mark_field =
     up_to (viewed_law mark_of (place ⨟ place ⨟ version) (then_law place_field (then_law place_field version_field)) fields_bytes (OfKind 6) mark_parts
-        (λ x q. ((refl, q.1.1.1, q.1.1.0), refl))) (lit≤ tt)
+    (λ x q. ((refl, q.1.1.1, q.1.1.0), refl))) (lit≤ tt)
 
 -- ---- IvfAdd
 
@@ -143,7 +143,7 @@ pub ivf_add_field : IsField ivf_add fields_bytes (OfKind 9) 200000
 unfolding ivf_add spelling IsTyped IsWritable
 ivf_add_field =
     up_to (viewed_law ivf_add_of (block ⨟ heap_id ⨟ bits) (then_law (four_bytes_field 0 32767 (lit< tt)) (then_law heap_id_field bits_field)) fields_bytes (OfKind 9) ivf_add_parts
-        (λ x q. ((refl, q.1.1, q.0.1), refl))) (lit≤ tt)
+    (λ x q. ((refl, q.1.1, q.0.1), refl))) (lit≤ tt)
 
 -- ---- IvfGrow
 
@@ -159,7 +159,7 @@ pub ivf_grow_field : IsField ivf_grow fields_bytes (OfKind 10) 200000
 unfolding ivf_grow spelling IsTyped IsWritable
 ivf_grow_field =
     up_to (viewed_law ivf_grow_of (block ⨟ block ⨟ block ⨟ heap_id ⨟ bits) (then_law (four_bytes_field 0 32767 (lit< tt)) (then_law (four_bytes_field 0 32767 (lit< tt)) (then_law (four_bytes_field 0 32767 (lit< tt)) (then_law heap_id_field bits_field)))) fields_bytes (OfKind 10) ivf_grow_parts
-        (λ x q. ((refl, q.1.1.1.1, (q.0.1, q.1.0.1, q.1.1.0.1)), refl))) (lit≤ tt)
+    (λ x q. ((refl, q.1.1.1.1, (q.0.1, q.1.0.1, q.1.1.0.1)), refl))) (lit≤ tt)
 
 -- ---- IvfDrop
 
@@ -175,7 +175,7 @@ pub ivf_drop_field : IsField ivf_drop fields_bytes (OfKind 11) 200000
 unfolding ivf_drop spelling IsTyped IsWritable
 ivf_drop_field =
     up_to (viewed_law ivf_drop_of (block ⨟ offsets) (then_law (four_bytes_field 0 32767 (lit< tt)) offsets_field) fields_bytes (OfKind 11) ivf_drop_parts
-        (λ x q. ((refl, small_offsets x.1 q.1.1, (q.0.1, q.1.0, rising_offsets 0 x.1 q.1.1)), refl))) (lit≤ tt)
+    (λ x q. ((refl, small_offsets x.1 q.1.1, (q.0.1, q.1.0, rising_offsets 0 x.1 q.1.1)), refl))) (lit≤ tt)
 
 -- ---- IvfHint
 
@@ -191,7 +191,7 @@ pub ivf_hint_field : IsField ivf_hint fields_bytes (OfKind 12) 200000
 unfolding ivf_hint spelling IsTyped IsWritable
 ivf_hint_field =
     up_to (viewed_law ivf_hint_of (block ⨟ block) (then_law (four_bytes_field 0 32767 (lit< tt)) (four_bytes_field 0 32767 (lit< tt))) fields_bytes (OfKind 12) ivf_hint_parts
-        (λ x q. ((refl, tt, (q.0.1, q.1.1)), refl))) (lit≤ tt)
+    (λ x q. ((refl, tt, (q.0.1, q.1.1)), refl))) (lit≤ tt)
 
 -- ---- Entry
 
@@ -209,7 +209,7 @@ entry_of x = Entry x.0 x.1
 entry_law : IsField (and_then optional_place level_of) (λ x. tid_option_bytes x.0 ++ one_byte x.1) (λ x. FitsLevel x.0 x.1) (6 + 1)
 entry_law =
     next_law (λ v w. (v, w)) optional_place level_of optional_place_field (λ to _. level_field to) (λ x. tid_option_bytes x.0 ++ one_byte x.1) (λ x. FitsLevel x.0 x.1)
-        (λ e fits. (e.0, e.1, refl, tt, fits, refl)) (λ v w _ q. (q, refl))
+    (λ e fits. (e.0, e.1, refl, tt, fits, refl)) (λ v w _ q. (q, refl))
 
 entry_parts : Parts entry_law entry_of 7
 unfolding spelling IsTyped IsWritable
@@ -220,7 +220,7 @@ pub entry_field : IsField entry fields_bytes (OfKind 7) 200000
 unfolding entry spelling IsTyped IsWritable
 entry_field =
     up_to (viewed_law entry_of (and_then optional_place level_of) entry_law fields_bytes (OfKind 7) entry_parts
-        (λ x q. let l = level_fits x.0 x.1 q in ((refl, l.0, l.1), refl))) (lit≤ tt)
+    (λ x q. let l = level_fits x.0 x.1 q in ((refl, l.0, l.1), refl))) (lit≤ tt)
 
 -- ---- Hint
 
@@ -233,4 +233,4 @@ pub hint_field : IsField hint fields_bytes (OfKind 8) 200000
 unfolding hint spelling IsTyped IsWritable
 hint_field =
     up_to (viewed_law Hint (four_bytes_from 0 32768) (four_bytes_field 0 32768 (lit< tt)) fields_bytes (OfKind 8) hint_parts
-        (λ x q. ((refl, tt, q.1), refl))) (lit≤ tt)
+    (λ x q. ((refl, tt, q.1), refl))) (lit≤ tt)

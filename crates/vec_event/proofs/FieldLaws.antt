@@ -119,7 +119,7 @@ module _ {A B C : Type 0} (made : A → B → C) (f : Reader A) (g : A → Reade
         let same = got_is (made a.0 b.0) e b.1 rest b.3 in
         let p = whole a.0 b.0 x.1 y.1 in
         let text : bytes ≡ u (made a.0 b.0) ++ b.1 =
-            x.0 ∙ ap (λ (z : List ℕ). s a.0 ++ z) y.0 ∙ sym (append_assoc (s a.0) (t b.0) b.1) ∙ ap (λ (z : List ℕ). z ++ b.1) (sym p.1) in
+        x.0 ∙ ap (λ (z : List ℕ). s a.0 ++ z) y.0 ∙ sym (append_assoc (s a.0) (t b.0) b.1) ∙ ap (λ (z : List ℕ). z ++ b.1) (sym p.1) in
         (text ∙ ap₂ (λ (c : C) (z : List ℕ). u c ++ z) same.0 same.1, subst R same.0 p.0);
     again = λ e rest fits.
         let p = parts e fits in
@@ -132,27 +132,27 @@ module _ {A B C : Type 0} (made : A → B → C) (f : Reader A) (g : A → Reade
         elim (bad_after (f bytes) (λ v between. g v between >>= λ w end. Got (made v w) end) left is) [
           | inl bad ↦ let n = first.near bytes left bs bad in (n.0, omega (arith, n.1))
           | inr a ↦
-            let x = first.takes bytes a.0 a.1 bs a.2 in
-            let len : length bytes ≡ length (s a.0) + length a.1 = ap (λ (z : List ℕ). length z) x.0 ∙ length-append (s a.0) a.1 in
-            elim (bad_after (g a.0 a.1) (λ w end. Got (made a.0 w) end) left a.3) [
-              | inl bad ↦
-                let n = (second a.0 x.1).near a.1 left (AreBytes-rest bytes (s a.0) a.1 bs x.0) bad in
-                (omega (arith, len, n.0), omega (arith, len, n.1, first.small a.0 x.1))
-              | inr b ↦ absurd (got_not_bad b.3)
-            ]
+              let x = first.takes bytes a.0 a.1 bs a.2 in
+              let len : length bytes ≡ length (s a.0) + length a.1 = ap (λ (z : List ℕ). length z) x.0 ∙ length-append (s a.0) a.1 in
+              elim (bad_after (g a.0 a.1) (λ w end. Got (made a.0 w) end) left a.3) [
+                | inl bad ↦
+                    let n = (second a.0 x.1).near a.1 left (AreBytes-rest bytes (s a.0) a.1 bs x.0) bad in
+                    (omega (arith, len, n.0), omega (arith, len, n.1, first.small a.0 x.1))
+                | inr b ↦ absurd (got_not_bad b.3)
+              ]
         ];
     stays = λ bytes more left bs is.
         elim (bad_after (f bytes) (λ v between. g v between >>= λ w end. Got (made v w) end) left is) [
           | inl bad ↦ rw (first.stays bytes more left bs bad) refl
           | inr a ↦
-            let x = first.takes bytes a.0 a.1 bs a.2 in
-            let text : bytes ++ more ≡ s a.0 ++ (a.1 ++ more) = ap (λ (z : List ℕ). z ++ more) x.0 ∙ append_assoc (s a.0) a.1 more in
-            elim (bad_after (g a.0 a.1) (λ w end. Got (made a.0 w) end) left a.3) [
-              | inl bad ↦
-                let n = (second a.0 x.1).stays a.1 more left (AreBytes-rest bytes (s a.0) a.1 bs x.0) bad in
-                ap (with_next made f g) text ∙ rw (first.again a.0 (a.1 ++ more) x.1, n) refl
-              | inr b ↦ absurd (got_not_bad b.3)
-            ]
+              let x = first.takes bytes a.0 a.1 bs a.2 in
+              let text : bytes ++ more ≡ s a.0 ++ (a.1 ++ more) = ap (λ (z : List ℕ). z ++ more) x.0 ∙ append_assoc (s a.0) a.1 more in
+              elim (bad_after (g a.0 a.1) (λ w end. Got (made a.0 w) end) left a.3) [
+                | inl bad ↦
+                    let n = (second a.0 x.1).stays a.1 more left (AreBytes-rest bytes (s a.0) a.1 bs x.0) bad in
+                    ap (with_next made f g) text ∙ rw (first.again a.0 (a.1 ++ more) x.1, n) refl
+                | inr b ↦ absurd (got_not_bad b.3)
+              ]
         ];
   }
 
@@ -177,8 +177,8 @@ module _ {B C : Type 0} (view : B → C) (f : Reader B) where
   unfolding nothing
   viewed_law {t} {Q} {j} law u R parts whole =
       next_law (λ w _. view w) f (λ _. nothing) law (λ _ _. nothing_law) u R
-          (λ e fits. let p = parts e fits in (p.0, tt, p.1, p.2, tt, p.3 ∙ sym (append-nil (t p.0))))
-          (λ w _ fits _. let p = whole w fits in (p.0, p.1 ∙ sym (append-nil (t w))))
+      (λ e fits. let p = parts e fits in (p.0, tt, p.1, p.2, tt, p.3 ∙ sym (append-nil (t p.0))))
+      (λ w _ fits _. let p = whole w fits in (p.0, p.1 ∙ sym (append-nil (t w))))
 
 -- ---- a field that the value is not to have
 
@@ -207,7 +207,7 @@ module _ {A B : Type 0} (f : Reader A) (g : A → Reader B) where
       → ((e : B) → R e → (v : A) × P v × Q v e × (u e ≡ s v ++ t e)) → ((v : A) (w : B) → P v → Q v w → R w × (u w ≡ s v ++ t w)) → IsField (depending f g) u R (k + j)
   depending_law first second u R parts whole =
       same_law (with_next (λ v w. w) f g) (depending f g) (λ bytes. go_on (f bytes))
-          (next_law (λ v w. w) f g first second u R (λ e fits. let p = parts e fits in (p.0, e, refl, p.1, p.2, p.3)) whole)
+      (next_law (λ v w. w) f g first second u R (λ e fits. let p = parts e fits in (p.0, e, refl, p.1, p.2, p.3)) whole)
 
 -- ---- a field, and then another one
 

@@ -41,7 +41,7 @@ module _ {A : Type 0} where
       → with_front front (times f (count - i) bytes) ≡ total → with_front (front ++ v ∷ []) (times f (count - (i + 1)) rest) ≡ total
   times_goes_on f front count i bytes v rest total lt first so_far =
       sym (regroup front v (times f (count - (i + 1)) rest)) ∙ ap (λ r. with_front front (r >>= λ v rest. times f (count - (i + 1)) rest >>= λ vs rest'. Got (v ∷ vs) rest')) (sym first)
-        ∙ ap (λ r. with_front front r) (sym (times_next f count i bytes lt)) ∙ so_far
+      ∙ ap (λ r. with_front front r) (sym (times_next f count i bytes lt)) ∙ so_far
 
   pub times_stops : (halt : Halt) (f : Reader A) (front : List A) (count i : ℕ) (bytes : List ℕ) (total : Read (List A)) → i < count → Stops halt (f bytes)
       → with_front front (times f (count - i) bytes) ≡ total → Stops halt total
@@ -66,7 +66,7 @@ pub rising_goes_on : (front : List ℕ) (low count i : ℕ) (bytes : List ℕ) (
     → with_front front (rising low (count - i) bytes) ≡ total → with_front (front ++ v ∷ []) (rising v (count - (i + 1)) rest) ≡ total
 rising_goes_on front low count i bytes v rest total lt first so_far =
     sym (regroup front v (rising v (count - (i + 1)) rest)) ∙ ap (λ r. with_front front (r >>= λ v rest. rising v (count - (i + 1)) rest >>= λ vs rest'. Got (v ∷ vs) rest')) (sym first)
-      ∙ ap (λ r. with_front front r) (sym (rising_next low count i bytes lt)) ∙ so_far
+    ∙ ap (λ r. with_front front r) (sym (rising_next low count i bytes lt)) ∙ so_far
 
 pub rising_stops : (halt : Halt) (front : List ℕ) (low count i : ℕ) (bytes : List ℕ) (total : Read (List ℕ)) → i < count → Stops halt (two_bytes_above low bytes)
     → with_front front (rising low (count - i) bytes) ≡ total → Stops halt total

@@ -68,7 +68,7 @@ first_byte xs le =
 last_byte : (xs : List Bool) → length xs < 8 → places 8 (number_of 8 xs) ≡ xs ++ replicate (8 - length xs) false
 last_byte xs lt =
     ap (λ n. places 8 n) (sym (number_padded 8 (8 - length xs) xs))
-      ∙ places_number 8 (xs ++ replicate (8 - length xs) false) (omega (arith, length-append xs (replicate (8 - length xs) false), length-replicate (8 - length xs) false))
+    ∙ places_number 8 (xs ++ replicate (8 - length xs) false) (omega (arith, length-append xs (replicate (8 - length xs) false), length-replicate (8 - length xs) false))
 
 unpacked_in : (k : ℕ) (xs : List Bool) → length xs ≤ 8 * k → unpacked (packed_in k xs) ≡ xs ++ replicate (8 * k - length xs) false
 unfolding unpacked packed_in
@@ -77,16 +77,16 @@ unpacked_in zero (x ∷ xs) le = absurd (omega arith)
 unpacked_in (suc k) xs le =
     elim (cases_lt (length xs) 8) [
       | inl lt ↦
-        let few : length xs ≤ 8 = omega arith in
-        let none : drop 8 xs ≡ [] = drop_of_length-le xs few in
-        let falses : (8 - length xs) + (8 * k - 0) ≡ 8 * suc k - length xs = omega arith in
-        ap₂ (λ (us vs : List Bool). us ++ vs) (last_byte xs lt) (ap (λ ys. unpacked (packed_in k ys)) none ∙ unpacked_in k [] (omega arith))
+          let few : length xs ≤ 8 = omega arith in
+          let none : drop 8 xs ≡ [] = drop_of_length-le xs few in
+          let falses : (8 - length xs) + (8 * k - 0) ≡ 8 * suc k - length xs = omega arith in
+          ap₂ (λ (us vs : List Bool). us ++ vs) (last_byte xs lt) (ap (λ ys. unpacked (packed_in k ys)) none ∙ unpacked_in k [] (omega arith))
           ∙ append_assoc xs (replicate (8 - length xs) false) (replicate (8 * k - 0) false)
           ∙ ap (λ ys. xs ++ ys) (replicate-append-replicate (8 - length xs) (8 * k - 0) false ∙ ap (λ n. replicate n false) falses)
       | inr ge ↦
-        let rest : length (drop 8 xs) ≡ length xs - 8 = length-drop 8 xs in
-        let falses : 8 * k - length (drop 8 xs) ≡ 8 * suc k - length xs = omega (arith, rest) in
-        ap₂ (λ (us vs : List Bool). us ++ vs) (first_byte xs ge) (unpacked_in k (drop 8 xs) (omega (arith, rest)))
+          let rest : length (drop 8 xs) ≡ length xs - 8 = length-drop 8 xs in
+          let falses : 8 * k - length (drop 8 xs) ≡ 8 * suc k - length xs = omega (arith, rest) in
+          ap₂ (λ (us vs : List Bool). us ++ vs) (first_byte xs ge) (unpacked_in k (drop 8 xs) (omega (arith, rest)))
           ∙ sym (append_assoc (take 8 xs) (drop 8 xs) (replicate (8 * k - length (drop 8 xs)) false))
           ∙ ap₂ (λ (us : List Bool) (n : ℕ). us ++ replicate n false) (take-append-drop 8 xs) falses
     ]

@@ -130,7 +130,7 @@ level_of (Some to) = byte
 unfoldable pub put : Reader Event
 put =
     viewed (λ x. events.Put x.0 x.1.0 x.1.1.0 x.1.1.1.0 x.1.1.1.1.0 x.1.1.1.1.1.0 x.1.1.1.1.1.1)
-        (place ⨟ place ⨟ version ⨟ byte ⨟ heap_id ⨟ bits ⨟ lists)
+    (place ⨟ place ⨟ version ⨟ byte ⨟ heap_id ⨟ bits ⨟ lists)
 
 unfoldable pub join : Reader Event
 join = viewed (λ x. events.Join x.0 x.1.0 x.1.1) (place ⨟ version ⨟ heap_id)

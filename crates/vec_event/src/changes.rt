@@ -6,7 +6,10 @@ ghost use Rattle.vec_event.specs.Answers.{Gives};
 
 use crate::counted::{bits, lists, offsets};
 use crate::event::Event;
-use crate::fields::{byte, four_bytes_from, heap_id, level, number_of_two, optional_place, place, two_bytes_from, version};
+use crate::fields::{
+    byte, four_bytes_from, heap_id, level, number_of_two, optional_place, place, two_bytes_from,
+    version,
+};
 use crate::halt::Halt;
 use std::alloc::Global;
 

@@ -23,7 +23,11 @@ pub enum Event {
         lists: Listed<Option<Tid>>,
     },
     /// The node has one more heap id, its last.
-    Join { at: Tid, version: u8, id: HeapId },
+    Join {
+        at: Tid,
+        version: u8,
+        id: HeapId,
+    },
     /// A slot of the node's list, counted over all its layers from 0, becomes `to`.
     Link {
         at: Tid,
@@ -40,15 +44,32 @@ pub enum Event {
         lists: Listed<Option<Tid>>,
     },
     /// The heap ids go that the mask `gone` names, the first by its lowest bit; the others close up.
-    Drop { at: Tid, version: u8, gone: u16 },
+    Drop {
+        at: Tid,
+        version: u8,
+        gone: u16,
+    },
     /// The node is deleted. `version` is the one before.
-    Mark { at: Tid, list_at: Tid, version: u8 },
+    Mark {
+        at: Tid,
+        list_at: Tid,
+        version: u8,
+    },
     /// The graph's entry point and its level; level 0 with none.
-    Entry { to: Option<Tid>, level: u8 },
+    Entry {
+        to: Option<Tid>,
+        level: u8,
+    },
     /// The block where room for a node is looked for first.
-    Hint { block: u32 },
+    Hint {
+        block: u32,
+    },
     /// One more entry on a block of a list.
-    IvfAdd { block: u32, id: HeapId, bits: Bits },
+    IvfAdd {
+        block: u32,
+        id: HeapId,
+        bits: Bits,
+    },
     /// A new block with one entry, behind the block `last` of a list, counted from 0.
     IvfGrow {
         list: u32,
@@ -58,23 +79,42 @@ pub enum Event {
         bits: Bits,
     },
     /// The entries at these offsets of a block go, which rise; the others close up.
-    IvfDrop { block: u32, gone: Listed<u16> },
+    IvfDrop {
+        block: u32,
+        gone: Listed<u16>,
+    },
     /// The block of a list where room for an entry is looked for first.
-    IvfHint { list: u32, block: u32 },
+    IvfHint {
+        list: u32,
+        block: u32,
+    },
     /// A desk takes a gate.
-    Gate { gate: Gate, hold: Hold },
+    Gate {
+        gate: Gate,
+        hold: Hold,
+    },
     /// A desk gives a gate back.
-    Ungate { gate: Gate },
+    Ungate {
+        gate: Gate,
+    },
     /// A vacuum begins a pass.
-    Phase { stage: Stage },
+    Phase {
+        stage: Stage,
+    },
     /// A vacuum ends after its last pass.
     VacuumEnd,
     /// A vacuum ends in this pass.
-    Cancel { stage: Stage },
+    Cancel {
+        stage: Stage,
+    },
     /// The lasting events before this count are settled.
-    Settled { upto: u64 },
+    Settled {
+        upto: u64,
+    },
     /// The disks have met so many faults.
-    DiskFaulted { count: u64 },
+    DiskFaulted {
+        count: u64,
+    },
 }
 
 /// One event made by one desk, by which the desk is known.

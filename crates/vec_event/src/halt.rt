@@ -12,9 +12,7 @@ pub enum Halt {
     Memory,
     Short,
     /// So many bytes are left from the field on whose value is not allowed.
-    Bad {
-        left: usize,
-    },
+    Bad { left: usize },
 }
 
 impl From<AllocError> for Halt {

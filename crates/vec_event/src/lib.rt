@@ -13,11 +13,12 @@ mod pieces;
 mod reading;
 mod sizes;
 mod stage;
+mod writing;
 
 pub use event::{Act, Event};
 pub use fault::EventFault;
 pub use gate::{Gate, Hold};
 pub use reading::read_event;
-
 pub use sizes::event_size;
 pub use stage::Stage;
+pub use writing::write_event;

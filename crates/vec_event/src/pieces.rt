@@ -4,7 +4,7 @@ ghost use Rattle.std.specs.Prelude.{◌≡◌, ◌<◌, ◌≤◌, ◌+◌, ◌^
 ghost use Rattle.std.specs.Int.{w16, w32, to_le_bytes};
 ghost use Rattle.std.specs.List.{flat_map};
 ghost use Rattle.vec_names.specs.Pointer.{tid_option_bytes};
-ghost use Rattle.vec_event.specs.Spelling.{bits_bytes, lists_bytes, offsets_bytes};
+ghost use Rattle.vec_event.specs.Spelling.{bits_bytes, lists_bytes, offsets_bytes, RisesFrom};
 
 use bit_code::Bits;
 use vec_names::Tid;
@@ -47,7 +47,7 @@ pub fn put_lists(into: &mut Vec<u8>, places: &[Option<Tid>])
 
 #[tactic(auto, using(crate::proofs::Lengths::offsets_length))]
 pub fn put_offsets(into: &mut Vec<u8>, offsets: &[u16])
-    requires few { length offsets.now < 2 ^ 16 }
+    requires rises { RisesFrom 0 offsets.now }
     requires room { vec_len into.old + length (offsets_bytes offsets.now) ≤ vec_capacity into.old }
     ensures items { into.new.items ≡ into.old.items ++ offsets_bytes offsets.now }
     ensures len { vec_len into.new ≡ vec_len into.old + length (offsets_bytes offsets.now) }

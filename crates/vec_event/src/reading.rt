@@ -6,7 +6,9 @@ ghost use Rattle.vec_event.specs.Answers.{Gives, IsReading};
 ghost use Rattle.vec_event.specs.Spelling.{spelling, IsTyped, IsWritable};
 ghost use Rattle.vec_event.specs.declared.event.Event.{Event};
 
-use crate::changes::{drop_ids, entry, hint, ivf_add, ivf_drop, ivf_grow, ivf_hint, join, link, mark, put, relist};
+use crate::changes::{
+    drop_ids, entry, hint, ivf_add, ivf_drop, ivf_grow, ivf_hint, join, link, mark, put, relist,
+};
 use crate::event::Event;
 use crate::fault::EventFault;
 use crate::fields::kind;
