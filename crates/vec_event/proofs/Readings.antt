@@ -1,9 +1,11 @@
 -- What a reading of the bytes says of the events that they spell.
-use Rattle.std.proofs.Common.{◌≡◌, ◌≢◌, ℕ, ◌+◌, ◌-◌, ◌<◌, ◌≤◌, ◌^◌, List, [], ◌∷◌, ◌++◌, length, drop, refl, sym, ap, ◌∙◌, append_assoc, arith}
+use Rattle.std.proofs.Common.{◌≡◌, ◌≢◌, ℕ, ◌+◌, ◌-◌, ◌<◌, ◌≤◌, ◌^◌, List, [], ◌∷◌, ◌++◌, length, drop, refl, sym, ap, ap₂, ◌∙◌, append_assoc, arith}
+use Rattle.std.specs.List.{flat_map, AllByRecursion}
+use Rattle.std.proofs.lemmas.List.Concat.{flat_map-cons}
 use Rattle.std.proofs.lemmas.List.{append-nil, length-append, drop_at}
 use Rattle.vec_event.specs.declared.event.Event.{Event}
 use Rattle.vec_event.specs.Spelling.{spelling, IsTyped, IsWritable}
-use Rattle.vec_event.specs.Reading.{Read, Got, Bad, Short, event}
+use Rattle.vec_event.specs.Reading.{Read, Got, Bad, Short, kind, field, event}
 use Rattle.vec_event.proofs.FieldLaws.{AreBytes, got_is, got_not_bad}
 use Rattle.vec_event.proofs.EachEvent.{event_field}
 
@@ -76,3 +78,27 @@ module _ (bytes : List ℕ) (left : ℕ) (bs : AreBytes bytes) (is : event bytes
 
 pub short_read : (bytes : List ℕ) → event bytes ≡ Short → (other : Event) (more : List ℕ) → IsTyped other → IsWritable other → bytes ≡ spelling other ++ more → ⊥
 short_read bytes is other more typed writable spelled = got_not_short (sym (again other bytes more typed writable spelled) ∙ is)
+
+-- ---- one reading
+
+pub one_event : (a b : Event) (x y : List ℕ) → IsTyped a → IsWritable a → IsTyped b → IsWritable b → spelling a ++ x ≡ spelling b ++ y → (a ≡ b) × (x ≡ y)
+one_event a b x y typed writable other_typed other_writable same =
+    got_is a b x y (sym (again a (spelling a ++ x) x typed writable refl) ∙ again b (spelling a ++ x) y other_typed other_writable same)
+
+nothing_read : event [] ≡ Short
+unfolding event kind field
+nothing_read = refl
+
+not_empty : (e : Event) (rest : List ℕ) → IsTyped e → IsWritable e → [] ≡ spelling e ++ rest → ⊥
+not_empty e rest typed writable same = got_not_short (sym (again e [] rest typed writable same) ∙ nothing_read)
+
+abbrev Fit : List Event → Type 0
+Fit es = AllByRecursion (λ e. IsTyped e × IsWritable e) es
+
+pub one_list : (es fs : List Event) → Fit es → Fit fs → flat_map spelling es ≡ flat_map spelling fs → es ≡ fs
+one_list [] [] fit other_fit same = refl
+one_list [] (f ∷ fs) fit other_fit same = absurd (not_empty f (flat_map spelling fs) other_fit.0.0 other_fit.0.1 (same ∙ flat_map-cons spelling f fs))
+one_list (e ∷ es) [] fit other_fit same = absurd (not_empty e (flat_map spelling es) fit.0.0 fit.0.1 (sym same ∙ flat_map-cons spelling e es))
+one_list (e ∷ es) (f ∷ fs) fit other_fit same =
+    let both = one_event e f (flat_map spelling es) (flat_map spelling fs) fit.0.0 fit.0.1 other_fit.0.0 other_fit.0.1 (sym (flat_map-cons spelling e es) ∙ same ∙ flat_map-cons spelling f fs) in
+    ap₂ (λ (x : Event) (xs : List Event). x ∷ xs) both.0 (one_list es fs fit.1 other_fit.1 both.1)
