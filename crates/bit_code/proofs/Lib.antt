@@ -1,3 +1,6 @@
+mod ChangedPlaces
+pub mod ExactPacking
 mod PackedPlaces
 mod PackedTexts
-mod UnequalBytes
+mod PlaceParts
+mod TalliedBytes

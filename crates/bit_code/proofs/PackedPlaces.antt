@@ -6,8 +6,8 @@ use Rattle.std.proofs.Math.Seq.{drop-nil, drop-append_seam}
 use Rattle.std.proofs.lemmas.Nat.{shr-shr, shr_below}
 use Rattle.std.proofs.lemmas.List.{append-nil, take-append-drop, take_at}
 use Rattle.std.proofs.lemmas.Bool.{cases_lt}
-use Rattle.bit_code.specs.Places.{places, unpacked, digit_of, number_of, packed_in, packed, Packed, Packs}
-use Rattle.bit_code.proofs.UnequalBytes.{length-places, unpacked-append, length_view}
+use Rattle.bit_code.specs.Places.{places, unpacked, digit_of, number_of, packed_in, packed, Packed, Packs, tally, one_if_both, ones}
+use Rattle.bit_code.proofs.TalliedBytes.{length-places, unpacked-append, view_count}
 
 -- ---- numbers and their digits
 
@@ -82,7 +82,7 @@ packed_in-falses k (suc m) xs =
 pub packed_view : (c : ℕ) (bs : List ℕ) (xs : List Bool) → Packed c bs → ((i : ℕ) → get_or bs i 0 < 256) → take c (unpacked bs) ≡ xs → packed xs ≡ bs
 unfolding packed
 packed_view c bs xs kept small view =
-    let many : length xs ≡ c = ap (λ (ys : List Bool). length ys) (sym view) ∙ length_view c bs (omega (arith, kept.long)) in
+    let many : length xs ≡ c = view_count c bs xs view kept in
     let size : (length xs + 7) / 8 ≡ length bs = ap (λ (n : ℕ). (n + 7) / 8) many ∙ sym kept.long in
     let whole : xs ++ replicate (8 * length bs - c) false ≡ unpacked bs =
     ap₂ (λ (us vs : List Bool). us ++ vs) (sym view) (sym kept.clear) ∙ take-append-drop c (unpacked bs) in
@@ -149,7 +149,7 @@ slice_get-unpacked (b ∷ bs) (suc q) r h small =
     ∙ slice_get-past (places 8 b) (unpacked bs) (8 * q + r)
     ∙ slice_get-unpacked bs q r (omega (arith, h)) small
 
-get_or_default : (xs : List ℕ) (i d e : ℕ) → i < length xs → get_or xs i d ≡ get_or xs i e
+pub get_or_default : (xs : List ℕ) (i d e : ℕ) → i < length xs → get_or xs i d ≡ get_or xs i e
 get_or_default [] i d e h = absurd (omega (arith, h))
 get_or_default (x ∷ xs) zero d e h = refl
 get_or_default (x ∷ xs) (suc i) d e h = get_or_default xs i d e (omega (arith, h))
@@ -157,7 +157,7 @@ get_or_default (x ∷ xs) (suc i) d e h = get_or_default xs i d e (omega (arith,
 -- place i of a packed value is a place of its byte i / 8
 pub slice_get-view : (c : ℕ) (bs : List ℕ) (xs : List Bool) (i b : ℕ) → take c (unpacked bs) ≡ xs → Packed c bs → i < length xs → b ≡ get_or bs (i / 8) b → slice_get xs i ≡ slice_get (places 8 b) (i % 8)
 slice_get-view c bs xs i b view kept within is =
-    let many : length xs ≡ c = ap (λ (ys : List Bool). length ys) (sym view) ∙ length_view c bs (omega (arith, kept.long)) in
+    let many : length xs ≡ c = view_count c bs xs view kept in
     let inside : i < c = omega (arith, many, within) in
     let here : i / 8 < length bs = omega (arith, kept.long, inside) in
     let at : i ≡ 8 * (i / 8) + i % 8 = omega arith in
@@ -195,7 +195,7 @@ pub places_none : (n : ℕ) → places 0 n ≡ []
 unfolding places
 places_none n = refl
 
-unpacked-one : (b : ℕ) → unpacked (b ∷ []) ≡ places 8 b
+pub unpacked-one : (b : ℕ) → unpacked (b ∷ []) ≡ places 8 b
 unfolding unpacked
 unpacked-one b = append-nil (places 8 b)
 
@@ -206,3 +206,11 @@ unpacked_none = refl
 -- one byte more
 pub unpacked-push : (bs : List ℕ) (b : ℕ) (xs ys : List Bool) → unpacked bs ≡ xs → places 8 b ≡ ys → unpacked (bs ++ b ∷ []) ≡ xs ++ ys
 unpacked-push bs b xs ys so_far here = unpacked-append bs (b ∷ []) ∙ ap₂ (λ (us vs : List Bool). us ++ vs) so_far (unpacked-one b ∙ here)
+
+-- ---- counting
+
+pub both-self : (xs : List Bool) → tally one_if_both xs xs ≡ ones xs
+unfolding tally ones
+both-self [] = refl
+both-self (false ∷ xs) = ap (λ (n : ℕ). 0 + n) (both-self xs)
+both-self (true ∷ xs) = ap (λ (n : ℕ). 1 + n) (both-self xs)

@@ -9,7 +9,7 @@ use Rattle.std.specs.Simd.{first_chunks}
 use Rattle.bit_code.specs.Places.{places, unpacked, Packs}
 use Rattle.bit_code.specs.Texts.{places_of_text}
 use Rattle.bit_code.proofs.PackedPlaces.{places-push, places_none, unpacked_none, unpacked-push}
-use Rattle.bit_code.proofs.UnequalBytes.{chunk_at}
+use Rattle.bit_code.proofs.TalliedBytes.{chunk_at}
 
 pub packed_start : places 0 0 ≡ []
 packed_start = places_none 0

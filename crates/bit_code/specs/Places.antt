@@ -36,11 +36,30 @@ one_if_unequal false true = 1
 one_if_unequal true false = 1
 one_if_unequal true true = 0
 
+abbrev pub one_if_both : Bool → Bool → ℕ
+one_if_both false false = 0
+one_if_both false true = 0
+one_if_both true false = 0
+one_if_both true true = 1
+
+-- the sum of f over the places of two lists of one length
+unfoldable pub tally : (Bool → Bool → ℕ) → List Bool → List Bool → ℕ
+tally f [] ys = 0
+tally f (x ∷ xs) [] = 0
+tally f (x ∷ xs) (y ∷ ys) = f x y + tally f xs ys
+
 -- how many places of two lists of one length are unequal
-unfoldable pub unequal : List Bool → List Bool → ℕ
-unequal [] ys = 0
-unequal (x ∷ xs) [] = 0
-unequal (x ∷ xs) (y ∷ ys) = one_if_unequal x y + unequal xs ys
+abbrev pub unequal : List Bool → List Bool → ℕ
+unequal xs ys = tally one_if_unequal xs ys
+
+-- at how many places of two lists of one length both are 1
+abbrev pub both : List Bool → List Bool → ℕ
+both xs ys = tally one_if_both xs ys
+
+-- how many places are 1
+unfoldable pub ones : List Bool → ℕ
+ones [] = 0
+ones (x ∷ xs) = digit_of x + ones xs
 
 -- bytes that hold these places and no more
 pub record Packs (xs : List Bool) (bytes : List ℕ) : Type 0 where

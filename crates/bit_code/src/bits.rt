@@ -1,9 +1,11 @@
 // The packed value.
 ghost use Rattle.std.specs.Prelude.{◌≡◌, ◌<◌, ◌≤◌, IfOk, IfErr, length, IsTrue, slice_get, Some};
-ghost use Rattle.bit_code.specs.Places.{packed, places};
+ghost use Rattle.std.specs.Prelude.{take, replicate, false, slice_set};
+ghost use Rattle.bit_code.specs.Places.{packed, places, unpacked, Packed};
 ghost use Rattle.bit_code.specs.declared.fault.BitsFault.TheVariants.{Memory};
 
 use crate::BitsFault;
+use std::alloc::Global;
 use std::marker::Model;
 
 /// A value of 1 to 64,000 places, each 0 or 1. Contracts see it as the list of its places.
@@ -30,6 +32,30 @@ impl Model for Bits {
 impl Bits {
     /// The greatest number of places.
     pub const MOST: u32 = 64_000;
+
+    /// The value of `count` places whose packed bytes these are. `is_packed` tells whether a count and bytes may be passed.
+    /// Only memory can be wanting.
+    pub fn from_bytes(alloc: Global, count: u32, bytes: &[u8]) -> Result<Bits, BitsFault>
+        requires { Packed count bytes.now }
+        ensures value { IfOk result (λ b. b ≡ take count (unpacked bytes.now)) }
+        ensures bytes { IfOk result (λ b. packed b ≡ bytes.now) }
+        ensures memory { IfErr result (λ e. e ≡ BitsFault.Memory) }
+    {
+        let bytes = Vec::from_slice(alloc, bytes)?;
+        Ok(Bits { count, bytes })
+    }
+
+    /// The value of `count` places that are all 0. Only memory can be wanting.
+    pub fn zeros(alloc: Global, count: u32) -> Result<Bits, BitsFault>
+        requires some { 1 ≤ count }
+        requires few { count ≤ 64000 }
+        ensures value { IfOk result (λ b. b ≡ replicate count false) }
+        ensures memory { IfErr result (λ e. e ≡ BitsFault.Memory) }
+    {
+        let long = (count as usize + 7) / 8;
+        let bytes = vec![in alloc; 0u8; long]?;
+        Ok(Bits { count, bytes })
+    }
 
     /// An equal value. Only memory can be wanting.
     pub fn try_clone(&self) -> Result<Bits, BitsFault>
@@ -68,6 +94,25 @@ impl Bits {
         let byte = self.bytes[place as usize / 8];
         is_one(byte, place % 8)
     }
+
+    /// Makes the place, from 0, a 1 or a 0; the other places stay.
+    pub fn set(&mut self, place: u32, one: bool)
+        requires { place < length self.old }
+        ensures { self.new ≡ slice_set self.old place one }
+    {
+        let at = place as usize / 8;
+        self.bytes[at] = with_place(self.bytes[at], place % 8, one);
+    }
+
+    /// Takes the value of as many places whose packed bytes these are. It needs no memory. `is_packed` tells whether bytes
+    /// may be passed.
+    pub fn refill(&mut self, bytes: &[u8])
+        requires { Packed (length self.old) bytes.now }
+        ensures value { self.new ≡ take (length self.old) (unpacked bytes.now) }
+        ensures bytes { packed self.new ≡ bytes.now }
+    {
+        self.bytes.as_mut_slice().copy_from_slice(bytes);
+    }
 }
 
 // Whether a place of a byte, from 0 at its highest bit, is 1.
@@ -77,4 +122,16 @@ fn is_one(byte: u8, place: u32) -> bool
     ensures { slice_get (places 8 byte) place ≡ Some result }
 {
     (byte >> (7 - place)) & 1 == 1
+}
+
+// The byte with a place, from 0 at its highest bit, made a 1 or a 0.
+#[inline(always)]
+fn with_place(byte: u8, place: u32, one: bool) -> u8
+    requires { place < 8 }
+    ensures { places 8 result ≡ slice_set (places 8 byte) place one }
+{
+    if is_one(byte, place) == one {
+        return byte;
+    }
+    byte ^ (1 << (7 - place))
 }

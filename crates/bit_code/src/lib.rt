@@ -4,9 +4,14 @@
 mod bits;
 mod counts;
 mod fault;
+mod packing;
 mod texts;
 
 pub use bits::Bits;
-pub use counts::count_unequal;
+pub use counts::{count_both, count_ones, count_unequal};
 pub use fault::BitsFault;
+pub use packing::{is_packed, packing_is_exact};
 pub use texts::read_bits;
+
+#[cfg(test)]
+mod tests;

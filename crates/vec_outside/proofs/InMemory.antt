@@ -8,7 +8,8 @@ use Rattle.vec_outside.specs.declared.timeline.Call.{Call}
 use Rattle.vec_outside.specs.declared.timeline.Call.TheVariants.{Wrote, Synced}
 use Rattle.vec_outside.specs.Disk.{Image, IsTorn, Elapses, IsKept, IsWritten, spliced}
 use Rattle.vec_outside.specs.Areas.{is_same}
-use Rattle.vec_outside.specs.MemDisk.{before_call, Leaves, Since, left_by_sync, disk_of, now_left, IsPending}
+use Rattle.vec_outside.specs.MemWrite.{write_of}
+use Rattle.vec_outside.specs.MemDisk.{MayMake, before_call, Leaves, Since, left_by_sync, disk_of, now_left, IsPending}
 
 pub elapses_none : (now : Image) (calls : List Call) → Elapses (disk_of now calls) (disk_of now calls)
 elapses_none now calls = record { later = omega arith; nothing_else = λ t image le since. inl since; keeps = λ t image le since. since }
@@ -56,15 +57,15 @@ is_or_not Log1 Log1 = inl refl
 -- what is left where an area was synced is what is read
 pub synced_leaves : (synced area : Area) (now : List ℕ) (calls : List Call) (bytes : List ℕ) → Leaves area now (Synced synced ∷ calls) bytes → Leaves area now calls bytes
 synced_leaves synced area now calls bytes (inl is) = subst (Leaves area now calls) (sym is) (now_left area now calls)
-synced_leaves synced area now calls bytes (inr left) = by_test (is_same synced area) left
+synced_leaves synced area now calls bytes (inr (left, leaves, makes)) = by_test (is_same synced area) makes
   where
-    by_test : (same : Bool) → MatchBool same ⊥ (Leaves area now calls bytes) → Leaves area now calls bytes
-    by_test true left = absurd left
-    by_test false left = left
+    by_test : (same : Bool) → MatchBool same ⊥ (bytes ≡ left) → Leaves area now calls bytes
+    by_test true makes = absurd makes
+    by_test false makes = subst (Leaves area now calls) (sym makes) leaves
 
 pub synced_only : (area : Area) (now : List ℕ) (calls : List Call) (bytes : List ℕ) → Leaves area now (Synced area ∷ calls) bytes → bytes ≡ now
 synced_only area now calls bytes (inl is) = is
-synced_only area now calls bytes (inr left) = absurd (subst (λ same. MatchBool same ⊥ (Leaves area now calls bytes)) (same_itself area) left)
+synced_only area now calls bytes (inr (left, leaves, makes)) = absurd (subst (λ same. MatchBool same ⊥ (bytes ≡ left)) (same_itself area) makes)
 
 pub kept_sync : (area : Area) (now : Image) (calls : List Call) → IsKept (disk_of now calls) (disk_of now (Synced area ∷ calls))
 kept_sync area now calls = record { seen = λ other. refl; leaves = λ other bytes left. synced_leaves area other (now other) calls bytes left }
@@ -78,13 +79,13 @@ unwritten at n bytes =
     ∙ take-append-drop at bytes
 
 -- a write of an area, by the bytes that it took the place of
-module _ (area : Area) (at n : ℕ) (over : Vec ℕ Global) (was now : Image) (calls calls' : List Call)
-    (is_next : calls' ≡ Wrote area at n over ∷ calls)
+module _ (area : Area) (at n : ℕ) (over refused : Vec ℕ Global) (was now : Image) (calls calls' : List Call)
+    (is_next : calls' ≡ Wrote (write_of area at n over refused) ∷ calls)
     (is_over : over.items ≡ take n (drop at (was area)))
     (torn : IsTorn at n (was area) (now area))
     (others : (other : Area) → other ≢ area → now other ≡ was other) where
   abbrev call : Call
-  call = Wrote area at n over
+  call = Wrote (write_of area at n over refused)
 
   undo : take at (now area) ++ over.items ++ drop (at + n) (now area) ≡ was area
   undo = (λ i. torn.before i ++ is_over i ++ torn.after i) ∙ unwritten at n (was area)
@@ -99,17 +100,27 @@ module _ (area : Area) (at n : ℕ) (over : Vec ℕ Global) (was now : Image) (c
   undo_each : (other : Area) → before_call call other (now other) ≡ was other
   undo_each other = ⊎_elim (λ is. subst (λ (a : Area). before_call call a (now a) ≡ was a) (sym is) undo_here) (undo_other other) (is_or_not other area)
 
+  -- what the write makes of the area, and of another
+  makes_here : (old new : List ℕ) → MayMake call area old new → IsTorn at n old new
+  makes_here old new makes = subst (λ (same : Bool). MatchBool same (IsTorn at n old new) (new ≡ old)) (same_itself area) makes
+
+  may_make_here : (old new : List ℕ) → IsTorn at n old new → MayMake call area old new
+  may_make_here old new is = subst (λ (same : Bool). MatchBool same (IsTorn at n old new) (new ≡ old)) (sym (same_itself area)) is
+
+  makes_other : (other : Area) (old new : List ℕ) → other ≢ area → MayMake call other old new → new ≡ old
+  makes_other other old new ne makes = subst (λ (same : Bool). MatchBool same (IsTorn at n old new) (new ≡ old)) (same_other area other ne) makes
+
+  may_make_other : (other : Area) (old new : List ℕ) → other ≢ area → new ≡ old → MayMake call other old new
+  may_make_other other old new ne is = subst (λ (same : Bool). MatchBool same (IsTorn at n old new) (new ≡ old)) (sym (same_other area other ne)) is
+
   written_leaves : (bytes : List ℕ) → Leaves area (now area) (call ∷ calls) bytes → (left : List ℕ) × Leaves area (was area) calls left × IsTorn at n left bytes
   written_leaves bytes (inl is) = (was area, now_left area (was area) calls, subst (IsTorn at n (was area)) (sym is) torn)
-  written_leaves bytes (inr left) =
-      let here = subst (λ same. MatchBool same ((left : List ℕ) × Leaves area (before_call call area (now area)) calls left × IsTorn at n left bytes) (Leaves area (before_call call area (now area)) calls bytes)) (same_itself area) left in
-      (here.0, subst (λ (w : List ℕ). Leaves area w calls here.0) undo_here here.1, here.2)
+  written_leaves bytes (inr (left, leaves, makes)) = (left, subst (λ (w : List ℕ). Leaves area w calls left) undo_here leaves, makes_here left bytes makes)
 
   other_leaves : (other : Area) (bytes : List ℕ) → other ≢ area → Leaves other (now other) (call ∷ calls) bytes → Leaves other (was other) calls bytes
   other_leaves other bytes ne (inl is) = subst (Leaves other (was other) calls) (sym (is ∙ others other ne)) (now_left other (was other) calls)
-  other_leaves other bytes ne (inr left) =
-      let there = subst (λ same. MatchBool same ((left : List ℕ) × Leaves other (before_call call other (now other)) calls left × IsTorn at n left bytes) (Leaves other (before_call call other (now other)) calls bytes)) (same_other area other ne) left in
-      subst (λ (w : List ℕ). Leaves other w calls bytes) (undo_other other ne) there
+  other_leaves other bytes ne (inr (left, leaves, makes)) =
+      subst (Leaves other (was other) calls) (sym (makes_other other left bytes ne makes)) (subst (λ (w : List ℕ). Leaves other w calls left) (undo_other other ne) leaves)
 
   pub is_written : IsWritten area at n (disk_of was calls) (disk_of now calls')
   is_written = subst (λ (l : List Call). IsWritten area at n (disk_of was calls) (disk_of now l)) (sym is_next) record { seen = torn; leaves = written_leaves; other_seen = others; other_leaves = other_leaves }
@@ -118,12 +129,10 @@ module _ (area : Area) (at n : ℕ) (over : Vec ℕ Global) (was now : Image) (c
   elapses_write = subst (λ (l : List Call). Elapses (disk_of was calls) (disk_of now l)) (sym is_next) (elapses_call was now call calls undo_each)
 
   may_be_torn : (left bytes : List ℕ) → Leaves area (was area) calls left → IsTorn at n left bytes → Leaves area (now area) (call ∷ calls) bytes
-  may_be_torn left bytes leaves is = inr (subst (λ same. MatchBool same ((left : List ℕ) × Leaves area (before_call call area (now area)) calls left × IsTorn at n left bytes) (Leaves area (before_call call area (now area)) calls bytes)) (sym (same_itself area))
-      (left, subst (λ (w : List ℕ). Leaves area w calls left) (sym undo_here) leaves, is))
+  may_be_torn left bytes leaves is = inr (left, subst (λ (w : List ℕ). Leaves area w calls left) (sym undo_here) leaves, may_make_here left bytes is)
 
   may_stay : (other : Area) (bytes : List ℕ) → other ≢ area → Leaves other (was other) calls bytes → Leaves other (now other) (call ∷ calls) bytes
-  may_stay other bytes ne leaves = inr (subst (λ same. MatchBool same ((left : List ℕ) × Leaves other (before_call call other (now other)) calls left × IsTorn at n left bytes) (Leaves other (before_call call other (now other)) calls bytes)) (sym (same_other area other ne))
-      (subst (λ (w : List ℕ). Leaves other w calls bytes) (sym (undo_other other ne)) leaves))
+  may_stay other bytes ne leaves = inr (bytes, subst (λ (w : List ℕ). Leaves other w calls bytes) (sym (undo_other other ne)) leaves, may_make_other other bytes bytes ne refl)
 
   pub is_pending : IsPending area at n (disk_of was calls) (disk_of now calls')
   is_pending = subst (λ (l : List Call). IsPending area at n (disk_of was calls) (disk_of now l)) (sym is_next) record { leaves = may_be_torn; other_leaves = may_stay }

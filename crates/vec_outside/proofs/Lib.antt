@@ -1,3 +1,4 @@
+mod Crashes
 pub mod Exits
 mod InMemory
 pub mod Moments

@@ -1,6 +1,6 @@
 -- How the moments of several calls are joined.
-use Rattle.std.proofs.Common.{inl, inr, ⊎_elim, ℕ, List, refl, arith}
-use Rattle.vec_outside.specs.Disk.{Disk, Image, IsImage, IsTorn, Elapses, LeavesOnly}
+use Rattle.std.proofs.Common.{◌∙◌, inl, inr, ⊎_elim, ℕ, List, refl, arith}
+use Rattle.vec_outside.specs.Disk.{Disk, Image, IsImage, IsTorn, Elapses, IsKept, LeavesOnly}
 
 -- bytes that were not written
 pub torn_none : (at n : ℕ) (bytes : List ℕ) → IsTorn at n bytes bytes
@@ -35,3 +35,14 @@ weakened old new P Q run weaker = record {
   each = λ image left. weaker image (run.each image left);
   before = λ t image le left. ⊎_elim (λ was. inl was) (λ has. inr (weaker image has)) (run.before t image le left);
 }
+
+-- two calls after which the same is read
+pub kept_on : (old mid new : Disk) → IsKept old mid → IsKept mid new → IsKept old new
+kept_on old mid new first second = record {
+  seen = λ area. second.seen area ∙ first.seen area;
+  leaves = λ area bytes left. first.leaves area bytes (second.leaves area bytes left);
+}
+
+-- one call more of a run that writes nothing
+pub reads_on : (old mid new : Disk) → LeavesOnly old mid (IsImage old) → IsKept old new → Elapses mid new → LeavesOnly old new (IsImage old)
+reads_on old mid new so_far kept time = goes_on old mid new (IsImage old) so_far time (λ image is area. kept.leaves area (image area) (is area))

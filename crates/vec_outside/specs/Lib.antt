@@ -1,8 +1,11 @@
 pub mod Areas
 pub mod Causes
+pub mod Crash
 pub mod Disk
+pub mod FileDisk
 pub mod FileStream
 pub mod MemDisk
 pub mod MemDisks
 pub mod MemStream
+pub mod MemWrite
 pub mod Planned

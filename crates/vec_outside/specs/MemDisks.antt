@@ -1,5 +1,5 @@
 -- What is seen of disks in memory.
-use Rattle.std.specs.Prelude.{Bool}
+use Rattle.std.specs.Prelude.{ℕ, Bool}
 use Rattle.vec_outside.specs.Disk.{Disk, Image}
 use Rattle.vec_outside.specs.MemDisk.{timeline_disk, synced_image}
 use Rattle.vec_outside.specs.Planned.{counted}
@@ -21,3 +21,7 @@ disks_plan disks = disks.plan
 -- after a call that changes nothing, which failed or did not
 abbrev pub asked : MemDisks → Bool → MemDisks
 asked disks failed = record disks { plan = counted disks.plan failed }
+
+-- every call with a greater number is to fail too
+abbrev pub stopped : MemDisks → ℕ → MemDisks
+stopped disks calls = record disks { plan = record disks.plan { stop = calls } }

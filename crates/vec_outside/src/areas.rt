@@ -2,7 +2,7 @@
 ghost use Rattle.std.specs.Prelude.{◌≡◌, ◌≢◌, ◌≤◌, ℕ, length, take, drop, vec_len, IfOk, OnOk, OnErr};
 ghost use Rattle.std.specs.Bool.{OnTrue, OnFalse};
 ghost use Rattle.vec_outside.specs.declared.disks.Area.{Area};
-ghost use Rattle.vec_outside.specs.Areas.{bytes_of};
+ghost use Rattle.vec_outside.specs.Areas.{bytes_of, is_same as same_area};
 ghost use Rattle.vec_outside.specs.Disk.{IsTorn, spliced};
 
 use crate::Area;
@@ -16,7 +16,7 @@ pub struct Areas {
 }
 
 // Writes over the bytes from a place on, and past the end.
-fn overwrite(area: &mut Vec<u8>, at: usize, bytes: &[u8]) -> Result<(), AllocError>
+pub fn overwrite(area: &mut Vec<u8>, at: usize, bytes: &[u8]) -> Result<(), AllocError>
     requires { at ≤ vec_len area.old }
     ensures ok { OnOk result (area.new.items ≡ spliced area.old.items at bytes.now) }
     ensures err { OnErr result (area.new.items ≡ area.old.items) }
@@ -44,6 +44,18 @@ pub fn replaced(alloc: Global, old: &[u8], at: usize, len: usize) -> Result<Vec<
     Ok(was)
 }
 
+// Whether two areas are one.
+pub fn is_same(a: Area, b: Area) -> bool
+    ensures { result ≡ same_area a b }
+{
+    match (a, b) {
+        (Area::Pages, Area::Pages) => true,
+        (Area::Log0, Area::Log0) => true,
+        (Area::Log1, Area::Log1) => true,
+        _ => false,
+    }
+}
+
 impl Areas {
     pub fn bytes(&self, area: Area) -> &[u8]
         ensures { result.now ≡ bytes_of self.now area }
@@ -57,9 +69,11 @@ impl Areas {
 
     fn overwrite(&mut self, area: Area, at: usize, bytes: &[u8]) -> Result<(), AllocError>
         requires { at ≤ length (bytes_of self.old area) }
-        ensures ok { OnOk result (bytes_of self.new area ≡ spliced (bytes_of self.old area) at bytes.now) }
+        ensures ok { OnOk result (bytes_of self.new area
+            ≡ spliced (bytes_of self.old area) at bytes.now) }
         ensures err { OnErr result (bytes_of self.new area ≡ bytes_of self.old area) }
-        ensures others { (other : Area) → other ≢ area → bytes_of self.new other ≡ bytes_of self.old other }
+        ensures others { (other : Area) → other ≢ area
+            → bytes_of self.new other ≡ bytes_of self.old other }
     {
         match area {
             Area::Pages => overwrite(&mut self.pages, at, bytes),
@@ -77,10 +91,14 @@ impl Areas {
         bytes: &[u8],
     ) -> Result<(), AllocError>
         requires { at ≤ length (bytes_of self.old area) }
-        ensures taken { OnOk result (OnTrue takes (bytes_of self.new area ≡ spliced (bytes_of self.old area) at bytes.now)) }
-        ensures failed { OnOk result (OnFalse takes (bytes_of self.new area ≡ bytes_of self.old area)) }
-        ensures torn { IsTorn at (length bytes.now) (bytes_of self.old area) (bytes_of self.new area) }
-        ensures others { (other : Area) → other ≢ area → bytes_of self.new other ≡ bytes_of self.old other }
+        ensures taken { OnOk result (OnTrue takes (bytes_of self.new area
+            ≡ spliced (bytes_of self.old area) at bytes.now)) }
+        ensures failed { OnOk result (OnFalse takes (bytes_of self.new area
+            ≡ bytes_of self.old area)) }
+        ensures torn { IsTorn at (length bytes.now) (bytes_of self.old area)
+            (bytes_of self.new area) }
+        ensures others { (other : Area) → other ≢ area
+            → bytes_of self.new other ≡ bytes_of self.old other }
     {
         if takes {
             return self.overwrite(area, at, bytes);

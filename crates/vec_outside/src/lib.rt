@@ -1,10 +1,15 @@
-//! What the program meets outside itself: a source and a sink of bytes, three areas of a disk, and the pace of its
-//! workers. Each has a version in memory, whose bytes and faults contracts name, and a thin one over the system.
+//! What the program meets outside itself: a source and a sink of bytes, three areas of a disk, and
+//! the pace of its workers. Each has a version in memory, whose bytes and faults contracts name,
+//! and a thin one over the system.
 #![tactic(auto)]
 
 mod areas;
+mod crash;
 mod disks;
+mod draws;
+mod file_disks;
 mod file_streams;
+mod files;
 mod mem_disks;
 mod mem_streams;
 mod outage;
@@ -12,9 +17,13 @@ mod pace;
 mod plan;
 mod steps;
 mod streams;
+#[cfg(test)]
+mod tests;
 mod timeline;
 
+pub use crash::Choice;
 pub use disks::{Area, Disks};
+pub use file_disks::FileDisks;
 pub use file_streams::{FileSink, FileSource};
 pub use mem_disks::MemDisks;
 pub use mem_streams::{MemSink, MemSource};

@@ -25,8 +25,8 @@ impl MemSource {
     ghost use Rattle.vec_outside.specs.MemStream.{source_left, source_plan};
     ghost use Rattle.vec_outside.specs.Planned.{fresh_plan};
 
-    /// Tells these bytes from the first on. The reads with the numbers in `fail` fail, counted from 1; a number that is
-    /// named twice counts once.
+    /// Tells these bytes from the first on. The reads with the numbers in `fail` fail, counted from
+    /// 1; a number that is named twice counts once.
     pub fn over(bytes: Vec<u8>, fail: Vec<u64>) -> MemSource
         ensures left { source_left result ≡ bytes.items }
         ensures plan { source_plan result ≡ fresh_plan fail }
@@ -44,8 +44,8 @@ impl MemSink {
     ghost use Rattle.vec_outside.specs.MemStream.{sink_held, sink_plan};
     ghost use Rattle.vec_outside.specs.Planned.{fresh_plan};
 
-    /// Holds these bytes, and takes others behind them. The writes with the numbers in `fail` fail, counted from 1; a
-    /// number that is named twice counts once.
+    /// Holds these bytes, and takes others behind them. The writes with the numbers in `fail` fail,
+    /// counted from 1; a number that is named twice counts once.
     pub fn over(bytes: Vec<u8>, fail: Vec<u64>) -> MemSink
         ensures held { sink_held result ≡ bytes.items }
         ensures plan { sink_plan result ≡ fresh_plan fail }
@@ -79,8 +79,10 @@ impl Source for MemSource {
     /// Fills `into` as far as the bytes go, or fails exactly where the call is to.
     fn read(&mut self, into: &mut [u8]) -> Result<usize, Outage>
         ensures bound { ReadsAtMost result into.new }
-        ensures bytes { ReadConsumes (Some (source_left self.old)) (Some (source_left self.new)) result into.new }
-        ensures cause { HasCause (source_plan self.old).faults (source_plan self.new).faults result }
+        ensures bytes { ReadConsumes (Some (source_left self.old))
+            (Some (source_left self.new)) result into.new }
+        ensures cause { HasCause (source_plan self.old).faults
+            (source_plan self.new).faults result }
         ensures all { IfOk result (λ n. n ≡ min (length into.old) (length (source_left self.old))) }
         ensures due { IsErr result ↔ IsDue (source_plan self.old) }
         ensures plan { source_plan self.new ≡ counted (source_plan self.old) (is_err result) }
@@ -114,7 +116,8 @@ impl Sink for MemSink {
     fn write(&mut self, bytes: &[u8]) -> Result<usize, Outage>
         ensures bound { WritesAtMost result bytes.now }
         ensures some { IfOk result (λ n. 0 < length bytes.now → 0 < n) }
-        ensures bytes { WriteAppends (Some (sink_held self.old)) (Some (sink_held self.new)) result bytes.now }
+        ensures bytes { WriteAppends (Some (sink_held self.old))
+            (Some (sink_held self.new)) result bytes.now }
         ensures cause { HasCause (sink_plan self.old).faults (sink_plan self.new).faults result }
         ensures all { IfOk result (λ n. n ≡ length bytes.now) }
         ensures due { IsErrOf result Failed ↔ IsDue (sink_plan self.old) }

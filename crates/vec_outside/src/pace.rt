@@ -1,7 +1,7 @@
 // Where the workers of a group of jobs may be held up.
 
-/// Called by workers at set places, so that a test can hold one up while others go on. It changes nothing that a
-/// contract names.
+/// Called by workers at set places, so that a test can hold one up while others go on. It changes
+/// nothing that a contract names.
 pub trait Pace: Sync {
     /// A worker is between two of its steps, of the job with this place in its group, from 0.
     fn between(&self, job: u32);

@@ -3,8 +3,9 @@ ghost use Rattle.std.specs.Prelude.{◌≡◌, ◌≤◌, ◌↔◌, IsTrue};
 ghost use Rattle.vec_outside.specs.Causes.{Rose};
 ghost use Rattle.vec_outside.specs.Planned.{IsDue, counted, fresh_plan};
 
-/// The numbers of the calls of an object in memory that are to fail, and its counts of those made and of those that
-/// failed. Calls are numbered from 1 since the object was made, and a number that is named twice counts once.
+/// The numbers of the calls of an object in memory that are to fail, and its counts of those made
+/// and of those that failed. Calls are numbered from 1 since the object was made, and a number that
+/// is named twice counts once.
 #[derive(Drop)]
 pub struct Plan {
     /// The numbers of the calls that are to fail, in any order.

@@ -1,21 +1,35 @@
-// Three areas in memory, with each write and sync that was made, the newest first, and the bytes that a write took the
-// place of: so what every moment might have left can be told, and a write costs its piece.
+// Three areas in memory, with each write and sync that was made, the newest first, and the bytes
+// that a write took the place of: so what every moment might have left can be told, and a write
+// costs its piece.
 ghost use Rattle.std.specs.Prelude.{◌≡◌, ◌≢◌, ◌+◌, ◌≤◌, [], ◌∷◌, ◌++◌, List, ℕ, IsTrue, IsErr, length, take, drop, Vec, IfOk, OnOk, OnErr};
 ghost use Rattle.std.specs.Bool.{OnTrue, OnFalse};
 ghost use Rattle.vec_outside.specs.Disk.{Elapses, IsKept, IsTorn, IsWritten, IsDurable, spliced};
 ghost use Rattle.std.specs.declared.alloc.Global.{Global};
 ghost use Rattle.vec_outside.specs.declared.disks.Area.{Area};
 ghost use Rattle.vec_outside.specs.declared.timeline.Call.TheVariants.{Wrote};
+ghost use Rattle.vec_outside.specs.MemWrite.{write_of};
 
 use crate::Area;
 use crate::areas::{Areas, replaced};
 use std::alloc::{AllocError, Global};
 use std::collections::VecDeque;
 
-/// A write at a place, of so many bytes, over these; or a sync.
+/// A range of an area that counts as written.
+#[derive(Drop)]
+pub struct Write {
+    pub area: Area,
+    pub at: usize,
+    pub len: usize,
+    /// What stood in the range: fewer bytes, where it reached past the end.
+    pub was: Vec<u8>,
+    /// Of a write that failed, the bytes that it did not leave there.
+    pub refused: Vec<u8>,
+}
+
+/// A write that succeeded or failed, or a sync that succeeded.
 #[derive(Drop)]
 pub enum Call {
-    Wrote(Area, usize, usize, Vec<u8>),
+    Wrote(Write),
     Synced(Area),
 }
 
@@ -25,6 +39,15 @@ pub struct Timeline {
     pub done: VecDeque<Call>,
 }
 
+// The bytes of a write that failed, and none of another.
+fn refused_bytes(alloc: Global, bytes: &[u8], takes: bool) -> Result<Vec<u8>, AllocError> {
+    if takes {
+        return Ok(Vec::new(alloc));
+    }
+    let refused = bytes.to_vec(alloc)?;
+    Ok(refused)
+}
+
 // Keeps that a range of an area was written, with the bytes that stand there.
 fn note(
     done: &mut VecDeque<Call>,
@@ -32,15 +55,24 @@ fn note(
     area: Area,
     now: &[u8],
     at: usize,
-    len: usize,
+    bytes: &[u8],
+    takes: bool,
 ) -> Result<(), AllocError>
     requires { at ≤ length now.now }
-    ensures ok { OnOk result ((was : Vec ℕ Global) × (done.new.items ≡ Wrote area at len was ∷ done.old.items)
-        × (was.items ≡ take len (drop at now.now))) }
+    ensures ok { OnOk result ((was : Vec ℕ Global) × (refused : Vec ℕ Global)
+        × (done.new.items ≡ Wrote (write_of area at (length bytes.now) was refused) ∷ done.old.items)
+        × (was.items ≡ take (length bytes.now) (drop at now.now))) }
     ensures err { OnErr result (done.new.items ≡ done.old.items) }
 {
-    let was = replaced(alloc, now, at, len)?;
-    done.push_front(Call::Wrote(area, at, len, was))?;
+    let was = replaced(alloc, now, at, bytes.len())?;
+    let refused = refused_bytes(alloc, bytes, takes)?;
+    done.push_front(Call::Wrote(Write {
+        area,
+        at,
+        len: bytes.len(),
+        was,
+        refused,
+    }))?;
     Ok(())
 }
 
@@ -58,15 +90,19 @@ impl Timeline {
         takes: bool,
     ) -> Result<(), AllocError>
         requires { at ≤ length (bytes_of self.old.areas area) }
-        ensures taken { OnOk result (OnTrue takes (bytes_of self.new.areas area ≡ spliced (bytes_of self.old.areas area) at bytes.now)) }
-        ensures failed { OnOk result (OnFalse takes (bytes_of self.new.areas area ≡ bytes_of self.old.areas area)) }
-        ensures written { IsWritten area at (length bytes.now) (timeline_disk self.old) (timeline_disk self.new) }
-        ensures pending { OnOk result (IsPending area at (length bytes.now) (timeline_disk self.old) (timeline_disk self.new)) }
+        ensures taken { OnOk result (OnTrue takes (bytes_of self.new.areas area
+            ≡ spliced (bytes_of self.old.areas area) at bytes.now)) }
+        ensures failed { OnOk result (OnFalse takes (bytes_of self.new.areas area
+            ≡ bytes_of self.old.areas area)) }
+        ensures written { IsWritten area at (length bytes.now) (timeline_disk self.old)
+            (timeline_disk self.new) }
+        ensures pending { OnOk result (IsPending area at (length bytes.now)
+            (timeline_disk self.old) (timeline_disk self.new)) }
         ensures synced { (each : Area) → synced_image self.new each ≡ synced_image self.old each }
         ensures time { Elapses (timeline_disk self.old) (timeline_disk self.new) }
     {
         let now = self.areas.bytes(area);
-        note(&mut self.done, alloc, area, now, at, bytes.len())?;
+        note(&mut self.done, alloc, area, now, at, bytes, takes)?;
         self.areas.overwrite_if(takes, area, at, bytes)
     }
 
@@ -76,7 +112,8 @@ impl Timeline {
         ensures durable { OnOk result (IsDurable area (timeline_disk self.new)) }
         ensures kept { IsKept (timeline_disk self.old) (timeline_disk self.new) }
         ensures synced { OnOk result (synced_image self.new area ≡ bytes_of self.old.areas area) }
-        ensures other_synced { (other : Area) → other ≢ area → synced_image self.new other ≡ synced_image self.old other }
+        ensures other_synced { (other : Area) → other ≢ area
+            → synced_image self.new other ≡ synced_image self.old other }
         ensures err { OnErr result (self.new.done.items ≡ self.old.done.items) }
         ensures time { Elapses (timeline_disk self.old) (timeline_disk self.new) }
     {

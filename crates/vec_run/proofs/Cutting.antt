@@ -75,3 +75,7 @@ pub cut_answer : (byte : ℕ) (text : List ℕ) (r : Option ℕ) → IsFirstByte
 cut_answer byte text None nowhere = λ k within is. nowhere k (omega arith) within (eq-eqb (get_or text k 0) byte is)
 cut_answer byte text (Some at) first =
     cut_from byte at text first.0.high (eqb-true (get_or text at 0) byte first.1) (λ k below is. first.0.before k (omega arith) below (eq-eqb (get_or text k 0) byte is))
+
+pub lacks_cons : (byte x : ℕ) (xs : List ℕ) → x ≢ byte → Lacks byte xs → Lacks byte (x ∷ xs)
+lacks_cons byte x xs other lacks zero within = other
+lacks_cons byte x xs other lacks (suc k) within = lacks k (omega (arith, within))

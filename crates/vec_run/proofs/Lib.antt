@@ -1,2 +1,7 @@
+mod AnswerSteps
 mod Cutting
+mod Forms
+mod LineCuts
+mod Moving
+mod Readings
 mod Spelling

@@ -1,11 +1,17 @@
 -- The script of `exact`: which texts are its lines, and where a text first leaves it.
 use Rattle.std.specs.Prelude.{ℕ, ◌≡◌, ◌⊎◌, ◌+◌, ◌^◌, ◌<◌, ◌≤◌, Bool, Option, Some, None, List, [], ◌∷◌, ◌++◌, length, take, map, codes, decimal}
-use Rattle.std.specs.List.{All, AllZip, filter_map}
+use Rattle.std.specs.List.{AllZip, filter_map}
 use Rattle.vec_names.specs.declared.heap_id.HeapId.{HeapId}
 use Rattle.bit_code.specs.Texts.{IsBitText, places_of_text}
 use Rattle.vec_run.specs.Lines.{lines_of, closed_part}
 use Rattle.vec_run.specs.declared.command.Command.{Command}
 use Rattle.vec_run.specs.declared.command.Command.TheVariants.{Row, Query}
+use Rattle.vec_run.specs.declared.fault.LineFault.{LineFault}
+use Rattle.vec_run.specs.declared.fault.LineFault.TheVariants.{Memory, Outside}
+use Rattle.vec_run.specs.declared.fault.ScriptFault.{ScriptFault}
+use Rattle.vec_run.specs.declared.fault.ScriptFault.TheVariants as script
+use Rattle.bit_code.specs.declared.fault.BitsFault.{BitsFault}
+use Rattle.bit_code.specs.declared.fault.BitsFault.TheVariants as bits
 
 -- B/O: a block of 0 to 4294967294 and an offset of 1 to 65535, both in decimal with no leading zero
 pub record IsId (text : List ℕ) (id : HeapId) : Type 0 where
@@ -18,13 +24,19 @@ pub record IsId (text : List ℕ) (id : HeapId) : Type 0 where
 abbrev pub IsBits : List ℕ → List Bool → Type 0
 IsBits text bits = IsBitText text × (bits ≡ places_of_text text)
 
--- `row ID BITS`
-pub record IsRow (text : List ℕ) (id : HeapId) (bits : List Bool) : Type 0 where
+-- `ID BITS`
+pub record IsPair (text : List ℕ) (id : HeapId) (bits : List Bool) : Type 0 where
   pub name : List ℕ
   pub value : List ℕ
-  pub spelled : text ≡ codes "row " ++ (name ++ 32 ∷ value)
+  pub spelled : text ≡ name ++ 32 ∷ value
   pub is_id : IsId name id
   pub is_bits : IsBits value bits
+
+-- `row ID BITS`
+pub record IsRow (text : List ℕ) (id : HeapId) (bits : List Bool) : Type 0 where
+  pub rest : List ℕ
+  pub spelled : text ≡ codes "row " ++ rest
+  pub is_pair : IsPair rest id bits
 
 -- `query BITS`
 pub record IsQuery (text : List ℕ) (bits : List Bool) : Type 0 where
@@ -52,15 +64,25 @@ abbrev pub places_in : Command → ℕ
 places_in (Row id bits) = length bits
 places_in (Query bits) = length bits
 
+-- the numbers of places of the lines that have a value
+abbrev pub lengths_of : List (Option Command) → List ℕ
+lengths_of [] = []
+lengths_of (None ∷ lines) = lengths_of lines
+lengths_of (Some command ∷ lines) = places_in command ∷ lengths_of lines
+
+abbrev pub AllAre : ℕ → List ℕ → Type 0
+AllAre n [] = Unit {0}
+AllAre n (m ∷ ms) = (m ≡ n) × AllAre n ms
+
 -- all are equal to the first
 abbrev pub AreEqual : List ℕ → Type 0
 AreEqual [] = Unit {0}
-AreEqual (n ∷ ns) = All (λ m. m ≡ n) ns
+AreEqual (n ∷ ns) = AllAre n ns
 
 -- texts that are lines of the form, with all bit texts of one length
 pub record IsForm (texts : List (List ℕ)) (lines : List (Option Command)) : Type 0 where
   pub each : AllZip IsLine texts lines
-  pub one_length : AreEqual (map places_in (commands_of lines))
+  pub one_length : AreEqual (lengths_of lines)
 
 -- a script: at most 2^28 bytes, whose lines are of the form
 pub record IsScript (bytes : List ℕ) (commands : List Command) : Type 0 where
@@ -84,3 +106,43 @@ BreaksBy texts k = BreaksAt texts k ⊎ ((k ≡ length texts) × ((lines : List 
 abbrev pub IsFirstOutside : List ℕ → ℕ → Type 0
 IsFirstOutside bytes k = ((length bytes ≤ 2 ^ 28) × BreaksAt (lines_of bytes) k)
     ⊎ ((2 ^ 28 < length bytes) × BreaksBy (lines_of (closed_part (take (2 ^ 28) bytes))) k)
+
+-- of want of memory nothing is said; a line that is outside has this
+abbrev pub IsOutsideOr : Type 0 → LineFault → Type 0
+IsOutsideOr P Memory = Unit {0}
+IsOutsideOr P Outside = P
+
+-- what a text that is no bit value makes of a line
+abbrev pub line_fault_of : BitsFault → LineFault
+line_fault_of bits.Memory = Memory
+line_fault_of bits.Empty = Outside
+line_fault_of (bits.BadPlace k) = Outside
+line_fault_of bits.TooLong = Outside
+
+-- of want of memory nothing is said; a line's number counts from 0
+abbrev pub IsScriptFault : List ℕ → ScriptFault → Type 0
+IsScriptFault bytes script.Memory = Unit {0}
+IsScriptFault bytes (script.Line k) = IsFirstOutside bytes k
+
+-- ---- while a script is read
+
+-- these texts are of the form, and give these commands
+pub record Reads (texts : List (List ℕ)) (commands : List Command) (count : ℕ) : Type 0 where
+  pub lines : List (Option Command)
+  pub form : IsForm texts lines
+  pub gives : commands ≡ commands_of lines
+  pub counted : count ≡ length texts
+
+abbrev pub IsFormFault : List (List ℕ) → ScriptFault → Type 0
+IsFormFault texts script.Memory = Unit {0}
+IsFormFault texts (script.Line k) = BreaksAt texts k
+
+-- a text that does not go on with texts of the form
+abbrev pub IsTextFault : List (List ℕ) → List ℕ → ScriptFault → Type 0
+IsTextFault texts text script.Memory = Unit {0}
+IsTextFault texts text (script.Line k) = (k ≡ length texts) × ((others : List (Option Command)) → IsForm (texts ++ text ∷ []) others → ⊥)
+
+-- a value of so many places may follow values of these
+abbrev pub FitsAfter : List ℕ → ℕ → Type 0
+FitsAfter [] m = Unit {0}
+FitsAfter (n ∷ ns) m = m ≡ n

@@ -1,3 +1,5 @@
 pub mod Lines
 pub mod Grammar
 pub mod Replies
+pub mod Exact
+pub mod Halts

@@ -1,5 +1,5 @@
 -- What is written for the commands of `exact`.
-use Rattle.std.specs.Prelude.{ℕ, ◌≡◌, Bool, Option, Some, None, List, [], ◌∷◌, ◌++◌, length, map, codes, decimal}
+use Rattle.std.specs.Prelude.{ℕ, ◌≡◌, Bool, Option, Some, None, List, [], ◌∷◌, ◌++◌, length, take, drop, codes, decimal}
 use Rattle.std.specs.List.{filter_map, flat_map}
 use Rattle.std.specs.declared.cmp.Ordering.{Ordering}
 use Rattle.std.specs.Ordering.{nat_cmp, ordering_then, is_lt}
@@ -38,9 +38,13 @@ id_text id = decimal id.block ++ 47 ∷ decimal id.off
 abbrev pub hit_line : Hit → List ℕ
 hit_line hit = codes "hit " ++ id_text hit.1 ++ 32 ∷ decimal hit.0.num ++ 10 ∷ []
 
--- a line for each hit, and then `hits N`
+-- `hits N`
+abbrev pub count_line : ℕ → List ℕ
+count_line n = codes "hits " ++ decimal n ++ 10 ∷ []
+
+-- a line for each hit, and one with their count
 abbrev pub hits_text : List Hit → List ℕ
-hits_text hits = flat_map hit_line hits ++ codes "hits " ++ decimal (length hits) ++ 10 ∷ []
+hits_text hits = flat_map hit_line hits ++ count_line (length hits)
 
 -- what a command is answered, after the commands above it
 abbrev pub reply_of : List Command → Command → List ℕ
@@ -54,3 +58,11 @@ replies_after above (command ∷ commands) = reply_of above command ++ replies_a
 
 abbrev pub replies_of : List Command → List ℕ
 replies_of commands = replies_after [] commands
+
+-- the reply to the command at a place, after those above it; none past the end
+abbrev pub reply_from : List Command → List Command → List ℕ
+reply_from above [] = []
+reply_from above (command ∷ commands) = reply_of above command
+
+abbrev pub reply_at : List Command → ℕ → List ℕ
+reply_at commands at = reply_from (take at commands) (drop at commands)

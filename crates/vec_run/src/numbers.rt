@@ -10,7 +10,7 @@ use vec_names::HeapId;
 
 /// A decimal number below 2^64, with no sign and no leading zero.
 pub fn read_number(word: &[u8]) -> Option<u64>
-    ensures { MatchOption result ((n : ℕ) → n < 2 ^ 64 → word.now ≢ decimal n) (λ n. word.now ≡ decimal n) }
+    ensures { MatchOption result ((n : ℕ) → n < 2 ^ 64 → word.now ≢ decimal n) (λ n. (n < 2 ^ 64) × (word.now ≡ decimal n)) }
 {
     let text = match str::from_utf8(word) {
         Ok(text) => text,
@@ -45,7 +45,13 @@ pub fn read_id(word: &[u8]) -> Option<HeapId>
         Some(off) => off,
         None => return None,
     };
-    if block >= 0xFFFF_FFFF || off == 0 || off > 0xFFFF {
+    if block >= 0xFFFF_FFFF {
+        return None;
+    }
+    if off == 0 {
+        return None;
+    }
+    if off > 0xFFFF {
         return None;
     }
     Some(HeapId {

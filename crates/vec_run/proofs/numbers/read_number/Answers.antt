@@ -14,13 +14,13 @@ returns-in-Err c n small is =
 -- and std reads it
 pub returns-in-Err-parse : goal.returns-in-Err-parse
 returns-in-Err-parse c n small is =
-    let read = parse-decimal 64 n c.in-Ok.text.now c.parse.result small small (c.in-Ok.ensures.cases.0 ∙ is) c.parse.ensures.value in
+    let read = parse-decimal 64 n c.in-Ok.text.now c.parse.result small small (c.in-Ok.ensures.cases.0 ∙ is) c.parse.ensures.value.0 in
     absurd (cc (read, c.in-Err-parse.is))
 
 -- as the number that it would print so
 pub returns-else-eq : goal.returns-else-eq
 returns-else-eq c n small is =
-    let read = parse-decimal 64 n c.in-Ok.text.now c.parse.result small small (c.in-Ok.ensures.cases.0 ∙ is) c.parse.ensures.value in
+    let read = parse-decimal 64 n c.in-Ok.text.now c.parse.result small small (c.in-Ok.ensures.cases.0 ∙ is) c.parse.ensures.value.0 in
     let number : c.in-Ok-parse.number ≡ n = cc (read, c.in-Ok-parse.is) in
     let printed : c.as_bytes.result.now ≡ c.args.word.now = c.as_bytes.ensures.value ∙ c.format.ensures.text ∙ ap decimal number ∙ sym is in
     let differs : c.eq.result ≡ false = c.if-eq.false in

@@ -1,7 +1,6 @@
-use Rattle.std.proofs.Common.{arith, ap, sym, ◌∙◌, List, length}
-use Rattle.std.specs.Prelude.{Bool}
-use Rattle.bit_code.proofs.UnequalBytes.{length_view}
+use Rattle.std.proofs.Common.{sym}
+use Rattle.bit_code.proofs.TalliedBytes.{view_count}
 use Rattle.bit_code.proofs.bits.Bits.count.Goals as goal
 
 pub returns-clause-count : goal.returns-clause-count
-returns-clause-count c = sym (length_view c.self.inside.count c.self.inside.bytes.items (omega (arith, c.self.invariant.long))) ∙ ap (λ (l : List Bool). length l) c.self.view_is
+returns-clause-count c = sym (view_count _ _ _ c.self.view_is c.self.invariant)

@@ -1,0 +1,12 @@
+pub mod Numbers
+pub mod Placing
+pub mod Whole
+pub mod Changes
+pub mod Dropped
+pub mod Formats
+pub mod Parts
+pub mod Alive
+pub mod Grammar
+pub mod Spelled
+pub mod Readers
+pub mod Verdicts

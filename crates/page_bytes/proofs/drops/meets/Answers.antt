@@ -1,0 +1,20 @@
+use Rattle.std.proofs.Common.{◌≡◌, ℕ, Bool, true, false, nat_eq, eqb, ltb, List, slice_index, length, sym, ◌∙◌, ◌⊎◌, inl, inr, arith, rules}
+use Rattle.std.proofs.lemmas.Bool.{cases_eq, le-ltb, eq-eqb, ne_eqb}
+use Rattle.std.proofs.lemmas.Bool.Decides.{nat_tests}
+use Rattle.std.specs.List.{list_any}
+use Rattle.std.specs.List.Sorted.{IsStrictlyIncreasing}
+use Rattle.page_bytes.specs.Dropping.{Meets}
+use Rattle.page_bytes.proofs.Dropped.{met_here, met_nowhere}
+use Rattle.page_bytes.proofs.drops.meets.Goals as goal
+
+pub returns-then-next-gone : goal.returns-then-next-gone
+returns-then-next-gone c =
+    let gone = c.args.gone.now in
+    elim (cases_eq (slice_index gone c.args.next) c.args.off) [
+      | inl same ↦ eq-eqb _ _ same ∙ sym (met_here gone c.args.next c.args.off c.if-next-gone.true same)
+      | inr apart ↦ ne_eqb _ _ apart ∙ sym (met_nowhere gone c.args.next c.args.off c.requires.rising c.requires.met (λ h. omega (arith, apart, c.requires.met.from h)))
+    ]
+
+pub returns-else-next-gone : goal.returns-else-next-gone
+returns-else-next-gone c =
+    le-ltb _ _ c.if-next-gone.false ∙ sym (met_nowhere c.args.gone.now c.args.next c.args.off c.requires.rising c.requires.met (λ h. omega arith))

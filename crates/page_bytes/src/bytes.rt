@@ -1,0 +1,72 @@
+//! Numbers within bytes, their low byte first.
+
+ghost use Rattle.std.specs.Prelude.{◌≡◌, ◌+◌, ◌*◌, ◌/◌, ◌%◌, ◌^◌, ◌≤◌, length};
+ghost use Rattle.page_bytes.specs.Content.{round8};
+ghost use Rattle.page_bytes.specs.Decoding.{half_at, word_at, long_at, named_by};
+ghost use Rattle.page_bytes.specs.Spelling.{line_pointer};
+ghost use Rattle.page_bytes.specs.Splice.{spliced};
+
+#[tactic(auto, unfolding(crate::specs::Decoding::half_at))]
+pub fn half(bytes: &[u8], at: usize) -> u16
+    requires { at + 2 ≤ length bytes.now }
+    ensures { result ≡ half_at bytes.now at }
+{
+    u16::from_le_bytes([bytes[at], bytes[at + 1]])
+}
+
+#[tactic(auto, unfolding(crate::specs::Decoding::half_at, crate::specs::Decoding::word_at))]
+pub fn word(bytes: &[u8], at: usize) -> u32
+    requires { at + 4 ≤ length bytes.now }
+    ensures { result ≡ word_at bytes.now at }
+{
+    u32::from_le_bytes([bytes[at], bytes[at + 1], bytes[at + 2], bytes[at + 3]])
+}
+
+#[tactic(auto, unfolding(crate::specs::Decoding::half_at, crate::specs::Decoding::word_at, crate::specs::Decoding::long_at))]
+pub fn long(bytes: &[u8], at: usize) -> u64
+    requires { at + 8 ≤ length bytes.now }
+    ensures { result ≡ long_at bytes.now at }
+{
+    u64::from(word(bytes, at)) + u64::from(word(bytes, at + 4)) * 0x1_0000_0000
+}
+
+/// Writes bytes over as many at a place.
+#[tactic(auto, unfolding(crate::specs::Splice::spliced))]
+pub fn put(bytes: &mut [u8], at: usize, part: &[u8])
+    requires { at + length part.now ≤ length bytes.old }
+    ensures { bytes.new ≡ spliced bytes.old at part.now }
+{
+    bytes[at..at + part.len()].copy_from_slice(part);
+}
+
+/// The item that a line pointer names.
+#[tactic(auto, unfolding(crate::specs::Decoding::named_by))]
+pub fn named(bytes: &[u8], pointer: u32) -> &[u8]
+    requires { pointer % 2 ^ 15 + pointer / 2 ^ 17 ≤ length bytes.now }
+    ensures { result.now ≡ named_by bytes.now pointer }
+{
+    let place = (pointer % 0x8000) as usize;
+    let len = (pointer / 0x2_0000) as usize;
+    &bytes[place..place + len]
+}
+
+/// The least multiple of 8 that is at least the length of an item.
+#[tactic(auto, unfolding(crate::specs::Content::round8))]
+pub fn rounded(len: usize) -> u16
+    requires { len ≤ 8184 }
+    ensures { result ≡ round8 len }
+{
+    (len as u16 + 7) / 8 * 8
+}
+
+/// Writes the line pointer of an item, from its place and its length.
+#[tactic(auto, unfolding(crate::specs::Spelling::line_pointer))]
+pub fn put_pointer(bytes: &mut [u8], at: usize, place: u16, len: u32)
+    requires within { at + 4 ≤ length bytes.old }
+    requires place { place ≤ 8184 }
+    requires len { len ≤ 8184 }
+    ensures { bytes.new ≡ spliced bytes.old at (line_pointer place len) }
+{
+    let pointer = u32::from(place) + 0x8000 + len * 0x2_0000;
+    put(bytes, at, &pointer.to_le_bytes());
+}

@@ -1,0 +1,17 @@
+//! Pages of 8,192 bytes, laid out as PostgreSQL does: a header, line pointers, items that grow down from the
+//! end, and a special space of 8 bytes.
+//!
+//! A page is seen as its kind, a next block or none, the number of the last event that changed it, and a list
+//! of items. Each such content that fits has one spelling, and other bytes are no page.
+#![tactic(auto)]
+
+mod bytes;
+mod drops;
+mod fault;
+mod kind;
+mod page;
+mod reading;
+
+pub use fault::PageFault;
+pub use kind::PageKind;
+pub use page::{Page, read_page};

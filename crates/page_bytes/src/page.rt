@@ -1,0 +1,220 @@
+//! A page in its bytes.
+
+ghost use Rattle.std.specs.Prelude.{◌≡◌, ◌+◌, ◌-◌, ◌*◌, ◌<◌, ◌≤◌, ◌↔◌, [], ◌∷◌, ◌++◌, length, slice_set, Some, None, IsNone, IfSome, IfNone, OnSome, IsSomeAnd, IfOk, IfErr, Ok, All, min, take};
+ghost use Rattle.std.specs.List.Sorted.{IsStrictlyIncreasing};
+ghost use Rattle.std.specs.Option.{option_copied};
+ghost use Rattle.page_bytes.specs.Content.{IsPage, round8, free_of, item_at, others};
+ghost use Rattle.page_bytes.specs.Content.{Content};
+ghost use Rattle.page_bytes.specs.Decoding.{Spells};
+ghost use Rattle.page_bytes.specs.Faults.{IsFirstFault};
+ghost use Rattle.page_bytes.specs.Spelling.{spelling};
+ghost use Rattle.page_bytes.specs.Splice.{with_item};
+ghost use Rattle.page_bytes.specs.declared.kind.PageKind.TheVariants.{IvfEntries};
+
+use crate::bytes::{half, long, named, put, put_pointer, rounded, word};
+use crate::drops::drop_from;
+use crate::fault::PageFault;
+use crate::kind::{PageKind, kind_of, word_of};
+use crate::reading::first_fault;
+use std::marker::Model;
+
+const SIZE: usize = 8192;
+
+/// A page of 8,192 bytes, which it holds in place.
+#[derive(Drop)]
+pub struct Page {
+    bytes: [u8; SIZE],
+}
+
+impl Model for Page {
+    ghost use Rattle.page_bytes.specs.Content.{Content};
+    ghost use Rattle.page_bytes.specs.Decoding.{content, IsSpelled};
+
+    ghost Value = { Content };
+
+    ghost view = { λ p. content p.bytes };
+
+    ghost invariant = { λ p. IsSpelled p.bytes };
+}
+
+impl Page {
+    /// A page with no items.
+    pub fn fresh(kind: PageKind) -> Page
+        ensures { result ≡ record { kind = kind; next = None; number = 0; items = [] } }
+    {
+        let mut bytes = [0; SIZE];
+        put(&mut bytes, 12, &[24, 0, 0xF8, 0x1F, 0xF8, 0x1F, 0x04, 0x20]);
+        put(
+            &mut bytes,
+            8184,
+            &[0xFF, 0xFF, 0xFF, 0xFF, 0, 0, word_of(kind), 0],
+        );
+        Page { bytes }
+    }
+
+    /// The page's one spelling, 8,192 bytes.
+    pub fn bytes(&self) -> &[u8]
+        ensures spelling { result.now ≡ spelling self.now }
+        ensures page { IsPage self.now }
+    {
+        &self.bytes
+    }
+
+    /// What the page is for.
+    #[tactic(auto, unfolding(crate::specs::Decoding::content))]
+    pub fn kind(&self) -> PageKind
+        ensures { result ≡ self.now.kind }
+    {
+        kind_of(half(&self.bytes, 8190))
+    }
+
+    /// The block of the next page of the same list. Only pages of kind `IvfEntries` have one.
+    #[tactic(auto, unfolding(crate::specs::Decoding::content))]
+    pub fn next(&self) -> Option<u32>
+        ensures { result ≡ self.now.next }
+    {
+        let next = word(&self.bytes, 8184);
+        if next == u32::MAX { None } else { Some(next) }
+    }
+
+    /// The number of the last event that changed the page, and 0 where there is none.
+    #[tactic(auto, unfolding(crate::specs::Decoding::content))]
+    pub fn number(&self) -> u64
+        ensures { result ≡ self.now.number }
+    {
+        long(&self.bytes, 0)
+    }
+
+    /// How many items the page has.
+    pub fn count(&self) -> u16
+        ensures { result ≡ length self.now.items }
+    {
+        (half(&self.bytes, 12) - 24) / 4
+    }
+
+    /// The bytes that are left, `pd_upper` less `pd_lower`.
+    pub fn free(&self) -> u16
+        ensures { result ≡ free_of self.now }
+    {
+        half(&self.bytes, 14) - half(&self.bytes, 12)
+    }
+
+    /// The item at an offset, which is 1 for the first. It is None exactly where the offset is 0 or past the last item.
+    pub fn item(&self, off: u16) -> Option<&[u8]>
+        ensures { option_copied result ≡ item_at self.now.items off }
+    {
+        if off == 0 || off > self.count() {
+            return None;
+        }
+        let pointer = word(&self.bytes, 20 + 4 * usize::from(off));
+        Some(named(&self.bytes, pointer))
+    }
+
+    /// Adds an item of 1 to 8,156 bytes, and gives its offset. It is None, and the page stays, exactly where the
+    /// item's bytes, rounded up to a multiple of 8, and its line pointer of 4 bytes take more than is free.
+    pub fn add_item(&mut self, bytes: &[u8]) -> Option<u16>
+        requires some { 0 < length bytes.now }
+        requires small { length bytes.now ≤ 8156 }
+        ensures refused { IsNone result ↔ (free_of self.old < round8 (length bytes.now) + 4) }
+        ensures kept { IfNone result (self.new ≡ self.old) }
+        ensures offset { IfSome result (λ off. off ≡ length self.old.items + 1) }
+        ensures added { OnSome result
+            (self.new ≡ record self.old { items = self.old.items ++ bytes.now ∷ [] }) }
+    {
+        let lower = half(&self.bytes, 12);
+        let upper = half(&self.bytes, 14);
+        let room = rounded(bytes.len());
+        if upper - lower < room + 4 {
+            return None;
+        }
+        place_item(&mut self.bytes, lower, upper - room, bytes);
+        Some((lower - 20) / 4)
+    }
+
+    /// Writes over an item that is there, by as many bytes.
+    pub fn overwrite(&mut self, off: u16, bytes: &[u8])
+        requires { IsSomeAnd (item_at self.old.items off) (λ x. length x ≡ length bytes.now) }
+        ensures { self.new ≡ record self.old { items = slice_set self.old.items (off - 1) bytes.now } }
+    {
+        let pointer = word(&self.bytes, 20 + 4 * usize::from(off));
+        put(&mut self.bytes, (pointer % 0x8000) as usize, bytes);
+    }
+
+    /// Drops the items at some offsets, which are there and rise. The others close up in their order.
+    pub fn drop_items(&mut self, gone: &[u16])
+        requires there { All (λ off. (0 < off) × (off ≤ length self.old.items)) gone.now }
+        requires rising { IsStrictlyIncreasing gone.now }
+        ensures { self.new ≡ record self.old { items = others gone.now 1 self.old.items } }
+    {
+        drop_from(&mut self.bytes, gone);
+    }
+
+    /// Sets the next block of a page of kind `IvfEntries`. A block is below 0xFFFFFFFF.
+    pub fn set_next(&mut self, next: Option<u32>)
+        requires kind { self.old.kind ≡ IvfEntries }
+        requires block { IfSome next (λ block. block < 0xFFFFFFFF) }
+        ensures { self.new ≡ record self.old { next = next } }
+    {
+        put(
+            &mut self.bytes,
+            8184,
+            &next.unwrap_or(u32::MAX).to_le_bytes(),
+        );
+    }
+
+    /// Sets the number of the last event that changed the page.
+    pub fn set_number(&mut self, number: u64)
+        ensures { self.new ≡ record self.old { number = number } }
+    {
+        put(&mut self.bytes, 0, &number.to_le_bytes());
+    }
+
+    /// An equal page.
+    pub fn copied(&self) -> Page
+        ensures { result ≡ self.now }
+    {
+        Page { bytes: self.bytes }
+    }
+}
+
+/// Reads a page. It is Ok exactly for the 8,192 bytes that spell one.
+pub fn read_page(bytes: &[u8]) -> Result<Page, PageFault>
+    ensures found { IfOk result (λ p. Spells bytes.now p) }
+    ensures only { (p : Content) → Spells bytes.now p → result ≡ Ok p }
+    ensures fault { IfErr result (λ fault. IsFirstFault bytes.now fault.at) }
+{
+    let whole = first_bytes(bytes);
+    let at = first_fault(&whole);
+    if at == 8192 && bytes.len() == SIZE {
+        return Ok(Page { bytes: whole });
+    }
+    Err(PageFault {
+        at: usize::from(at).min(bytes.len()) as u16,
+    })
+}
+
+/// The first 8,192 bytes, where there are fewer with zeros behind them.
+fn first_bytes(bytes: &[u8]) -> [u8; SIZE]
+    ensures long { length result ≡ 8192 }
+    ensures same { let count = min (length bytes.now) 8192 in
+        take count result ≡ take count bytes.now }
+{
+    let mut whole = [0; SIZE];
+    let count = bytes.len().min(SIZE);
+    put(&mut whole, 0, &bytes[..count]);
+    whole
+}
+
+/// Writes an item that has room, its line pointer, and where both end now: `lower` is where the line pointers
+/// end, and `place` is where the item goes.
+fn place_item(bytes: &mut [u8], lower: u16, place: u16, item: &[u8])
+    requires long { length bytes.old ≡ 8192 }
+    requires room { lower + 4 ≤ place }
+    requires fits { place + length item.now ≤ 8184 }
+    ensures { bytes.new ≡ with_item bytes.old lower place item.now }
+{
+    put(bytes, usize::from(place), item);
+    put_pointer(bytes, usize::from(lower), place, item.len() as u32);
+    put(bytes, 12, &(lower + 4).to_le_bytes());
+    put(bytes, 14, &place.to_le_bytes());
+}

@@ -1,0 +1,8 @@
+use Rattle.std.proofs.Common.{◌≡◌, ◌∙◌, ap, sym, arith}
+use Rattle.vec_run.specs.Grammar.{places_in}
+use Rattle.vec_run.proofs.Forms.{same_length_above}
+use Rattle.vec_run.proofs.exact.answer.Goals as goal
+
+pub write_answer-requires : goal.write_answer-requires
+write_answer-requires c k d within =
+    same_length_above c.args.commands.now c.args.at k d c.index-commands-at.result c.requires.one_length c.requires.within within c.index-commands-at.is ∙ ap places_in c.in-Query.is

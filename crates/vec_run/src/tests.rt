@@ -1,0 +1,208 @@
+use crate::outcome::Outcome;
+use crate::top::run_alone;
+use std::alloc::{AllocError, Global};
+use std::test::Fail;
+use std::thread::Threads;
+use vec_outside::{MemDisks, MemSink, MemSource, Outage, Sink};
+
+// What a run of these words on this script ended with and wrote, where these calls fail.
+fn ran<R: Threads + Sync>(
+    rt: &R,
+    alloc: Global,
+    word: &str,
+    script: &[u8],
+    reads: &[u64],
+    writes: &[u64],
+) -> Result<(u8, u64, Vec<u8>), Fail> {
+    let mut source = MemSource::over(script.to_vec(alloc)?, reads.to_vec(alloc)?);
+    let mut sink = MemSink::over(Vec::new(alloc), writes.to_vec(alloc)?);
+    let words = words_of(alloc, word)?;
+    let outcome = run_alone(
+        rt,
+        alloc,
+        &words,
+        &mut source,
+        &mut sink,
+        MemDisks::empty(alloc)?,
+    );
+    Ok((outcome.status, outcome.line, sink.bytes().to_vec(alloc)?))
+}
+
+fn words_of(alloc: Global, text: &str) -> Result<Vec<String>, AllocError> {
+    let mut words = Vec::new(alloc);
+    for word in text.split_whitespace() {
+        words.push(String::from_str(alloc, word)?)?;
+    }
+    Ok(words)
+}
+
+const FOUR_ROWS: &[u8] = b"row 1/1 0000\nrow 1/2 0011\nrow 1/3 0111\nquery 0001\n";
+
+const FOUR_REPLIES: &[u8] = b"hit 1/1 1\nhit 1/2 1\nhit 1/3 2\nhits 3\n";
+
+#[test]
+fn answered_scripts(rt: HostRuntime) -> Result<(), Fail> {
+    let (status, line, text) = ran(&rt, rt.alloc(), "exact", FOUR_ROWS, &[], &[])?;
+    assert_eq!(rt; status, 0);
+    assert_eq!(rt; line, 0);
+    assert_eq!(rt; text.as_slice(), FOUR_REPLIES);
+    let table: [(&[u8], &[u8]); 6] = [
+        (b"", b""),
+        (b"query 0001", b"hits 0\n"),
+        // Rows below a query are not answered; a last line may lack its line feed.
+        (
+            b"row 1/1 1\nquery 1\nrow 1/2 1\nquery 0",
+            b"hit 1/1 0\nhits 1\nhit 1/1 1\nhit 1/2 1\nhits 2\n",
+        ),
+        // Equal distances by id: first the block, then the offset.
+        (
+            b"row 10/1 1\nrow 9/2 0\nrow 9/1 0\nquery 0\n",
+            b"hit 9/1 0\nhit 9/2 0\nhit 10/1 1\nhits 3\n",
+        ),
+        // One id may name several rows.
+        (
+            b"row 4294967294/65535 01\nrow 4294967294/65535 10\nquery 01\n",
+            b"hit 4294967294/65535 0\nhit 4294967294/65535 2\nhits 2\n",
+        ),
+        // Lines that are skipped.
+        (
+            b"\n# any \xff bytes\r\nrow 0/1 0\n\nquery 0\n",
+            b"hit 0/1 0\nhits 1\n",
+        ),
+    ];
+    for (script, want) in table {
+        let (status, _, text) = ran(&rt, rt.alloc(), "exact", script, &[], &[])?;
+        assert_eq!(rt; status, 0);
+        assert_eq!(rt; text.as_slice(), want);
+    }
+    Ok(())
+}
+
+#[test]
+fn the_longest_value(rt: HostRuntime) -> Result<(), Fail> {
+    let alloc = rt.alloc();
+    let mut script = b"row 1/1 ".to_vec(alloc)?;
+    let value = vec![in alloc; b'0'; 64_000]?;
+    script.extend_from_slice(&value)?;
+    script.extend_from_slice(b"\nquery ")?;
+    script.extend_from_slice(&value)?;
+    let (status, _, text) = ran(&rt, rt.alloc(), "exact", &script, &[], &[])?;
+    assert_eq!(rt; status, 0);
+    assert_eq!(rt; text.as_slice(), b"hit 1/1 0\nhits 1\n".as_slice());
+    script.push(b'0')?;
+    let (status, line, text) = ran(&rt, rt.alloc(), "exact", &script, &[], &[])?;
+    assert_eq!(rt; status, 3);
+    assert_eq!(rt; line, 2);
+    assert!(rt; text.is_empty());
+    Ok(())
+}
+
+#[test]
+fn refused_scripts(rt: HostRuntime) -> Result<(), Fail> {
+    let table: [(&[u8], u64); 20] = [
+        (b"row 1/1 \n", 1),
+        (b"row 1/1 01x\n", 1),
+        (b"query 0\r\n", 1),
+        (b" query 0\n", 1),
+        (b"query 0 \n", 1),
+        (b"query  0\n", 1),
+        (b"query\n", 1),
+        (b"# good\n\nrow 01/1 0\n", 3),
+        (b"row 1/01 0\n", 1),
+        (b"row +1/1 0\n", 1),
+        (b"row 1/0 0\n", 1),
+        (b"row 1/65536 0\n", 1),
+        (b"row 4294967295/1 0\n", 1),
+        (b"row 1 0\n", 1),
+        (b"row 1/1/1 0\n", 1),
+        (b"row 1/1 0 7\n", 1),
+        (b"stats\n", 1),
+        (b"row 1/1 00\nquery 00\nquery 0\n", 3),
+        (b"query 00\nrow 1/1 0", 2),
+        (b"query 0\nserch 0000", 2),
+    ];
+    for (script, want) in table {
+        let (status, line, text) = ran(&rt, rt.alloc(), "exact", script, &[], &[])?;
+        assert_eq!(rt; status, 3);
+        assert_eq!(rt; line, want);
+        assert!(rt; text.is_empty());
+    }
+    Ok(())
+}
+
+// A script that is cut after each byte is read, or its last line is refused.
+#[test]
+fn every_cut(rt: HostRuntime) -> Result<(), Fail> {
+    let mut line = 1;
+    for end in 0..FOUR_ROWS.len() {
+        let (status, refused, _) = ran(&rt, rt.alloc(), "exact", &FOUR_ROWS[..end], &[], &[])?;
+        if status != 0 {
+            assert_eq!(rt; status, 3);
+            assert_eq!(rt; refused, line);
+        }
+        if FOUR_ROWS[end] == b'\n' {
+            line = if line < 9 { line + 1 } else { line };
+        }
+    }
+    Ok(())
+}
+
+#[test]
+fn words_and_faults(rt: HostRuntime) -> Result<(), Fail> {
+    for words in ["", "exact now", "Exact", "alone"] {
+        let (status, _, text) = ran(&rt, rt.alloc(), words, FOUR_ROWS, &[], &[])?;
+        assert_eq!(rt; status, 2);
+        assert!(rt; text.is_empty());
+    }
+    // The second read fails, after the first gave the whole script.
+    let (status, _, text) = ran(&rt, rt.alloc(), "exact", FOUR_ROWS, &[2], &[])?;
+    assert_eq!(rt; status, 4);
+    assert!(rt; text.is_empty());
+    let (status, _, text) = ran(&rt, rt.alloc(), "exact", FOUR_ROWS, &[], &[1])?;
+    assert_eq!(rt; status, 5);
+    assert!(rt; text.is_empty());
+    Ok(())
+}
+
+// Takes one byte at a time.
+#[derive(Drop)]
+struct Drops {
+    bytes: Vec<u8>,
+}
+
+impl Sink for Drops {
+    ghost use Rattle.std.specs.Prelude.{None};
+
+    ghost held = { λ _. None };
+
+    ghost count = { λ _. 0 };
+
+    fn write(&mut self, bytes: &[u8]) -> Result<usize, Outage> {
+        if bytes.is_empty() {
+            return Ok(0);
+        }
+        self.bytes.push(bytes[0])?;
+        Ok(1)
+    }
+}
+
+#[test]
+fn a_byte_at_a_time(rt: HostRuntime) -> Result<(), Fail> {
+    let alloc = rt.alloc();
+    let mut source = MemSource::over(FOUR_ROWS.to_vec(alloc)?, Vec::new(alloc));
+    let mut sink = Drops {
+        bytes: Vec::new(alloc),
+    };
+    let words = words_of(alloc, "exact")?;
+    let outcome: Outcome<MemDisks> = run_alone(
+        &rt,
+        alloc,
+        &words,
+        &mut source,
+        &mut sink,
+        MemDisks::empty(alloc)?,
+    );
+    assert_eq!(rt; outcome.status, 0);
+    assert_eq!(rt; sink.bytes.as_slice(), FOUR_REPLIES);
+    Ok(())
+}
