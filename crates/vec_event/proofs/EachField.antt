@@ -6,15 +6,13 @@ use Rattle.std.specs.Int.{w16, w32, to_le_bytes, from_le_bytes}
 use Rattle.std.proofs.lemmas.Bool.{and_parts, and_from, leb-true, le-leb, ltb-true, lt-ltb, eqb-true, eq-eqb}
 use Rattle.std.proofs.lemmas.Nat.{le_bytes_2, le_bytes_4, from_le_bytes-to_le_bytes_2, from_le_bytes-to_le_bytes_4}
 use Rattle.bit_code.specs.Places.{unpacked, packed, Packed}
-use Rattle.bit_code.proofs.PackedPlaces.{packed_view}
-use Rattle.bit_code.proofs.UnequalBytes.{length_view}
+use Rattle.bit_code.proofs.ExactPacking.{length-packed, packed-Packed, unpacked-packed, packed-take, length-take}
 use Rattle.vec_names.specs.declared.tid.Tid.{Tid}
 use Rattle.vec_names.specs.declared.heap_id.HeapId.{HeapId}
 use Rattle.vec_names.specs.Pointer.{tid_bytes, tid_option_bytes, heap_id_bytes, tid_in, tid_option_in, heap_id_in, block_in, off_in}
 use Rattle.vec_names.proofs.Pointers.{length-pointer_bytes, pointer_bytes-back, tid_in-again, tid_of-spelled, tid_option_in-again, tid_option_of-spelled, heap_id_in-again, heap_id_of-spelled}
 use Rattle.vec_event.specs.Reading.{Reader, field, only_if, kind, byte, version, place, optional_place, heap_id, number_of_two, two_bytes_from, two_bytes_above, four_bytes_from, packed_places, level_of}
-use Rattle.vec_event.proofs.Clear.{packed_from_clear}
-use Rattle.vec_event.proofs.Packing.{length-packed, clear-packed, view-packed}
+use Rattle.vec_event.proofs.Clear.{clear_packed, packed_clear}
 use Rattle.vec_event.proofs.FieldLaws.{AreBytes, IsField, Means, field_law}
 
 some_is : {A : Type 0} (x y : A) → Some x ≡ Some y → x ≡ y
@@ -155,9 +153,11 @@ unfolding packed_places
 packed_field count some few =
     field_law ((count + 7) / 8) (λ b. only_if (list_all not (drop count (unpacked b))) (take count (unpacked b))) packed (λ xs. length xs ≡ count) (record {
       long = λ xs len. rw (← len) (length-packed xs);
-      meant_by = λ xs len. rw (← len) (allowed _ _ (clear-packed xs) ∙ ap (λ ys. Some ys) (view-packed xs));
+      meant_by = λ xs len.
+          let kept = packed-Packed xs (omega (arith, some, len)) (omega (arith, few, len)) in
+          rw (← len) (allowed _ _ (clear_packed (length xs) (packed xs) kept) ∙ ap (λ ys. Some ys) (unpacked-packed xs));
       only = λ bytes xs len bs is.
           let t = told_only (list_all not (drop count (unpacked bytes))) (take count (unpacked bytes)) xs is in
-          let kept = packed_from_clear count bytes some few len t.0 in
-          (sym (packed_view count bytes xs kept bs t.1), sym (ap (λ (ys : List Bool). length ys) t.1) ∙ length_view count bytes (omega (arith, len)));
+          let kept = packed_clear count bytes some few len t.0 in
+          (sym (packed-take count bytes kept bs) ∙ ap packed t.1, sym (ap (λ (ys : List Bool). length ys) t.1) ∙ length-take count bytes kept);
     })

@@ -1,6 +1,5 @@
 pub mod Clear
 pub mod Loops
-pub mod Packing
 pub mod FieldLaws
 pub mod EachField
 pub mod CountedFields

@@ -8,7 +8,7 @@ ghost use Rattle.vec_event.specs.Answers.{Gives};
 
 use crate::fields::{four_bytes_from, optional_place, two_bytes_above, two_bytes_from};
 use crate::halt::Halt;
-use bit_code::Bits;
+use bit_code::{Bits, is_packed};
 use std::alloc::Global;
 use vec_names::{Listed, Tid};
 
@@ -48,9 +48,7 @@ fn is_clear(count: u32, bytes: &[u8]) -> bool
     requires long { length bytes.now ≡ (count + 7) / 8 }
     ensures { result ≡ list_all not (drop count (unpacked bytes.now)) }
 {
-    let unused = 8 * bytes.len() as u32 - count;
-    let last = u32::from(bytes[bytes.len() - 1]);
-    last % (1 << unused) == 0
+    is_packed(count, bytes)
 }
 
 /// A count of two bytes, at most 1,358, and that many optional places.
