@@ -12,5 +12,4 @@ pub fn one_reading()
         → spelling a ++ x ≡ spelling b ++ y → (a ≡ b) × (x ≡ y) }
     ensures events { (these others : List Event) → All (λ e. IsTyped e × IsWritable e) these → All (λ e. IsTyped e × IsWritable e) others
         → flat_map spelling these ≡ flat_map spelling others → these ≡ others }
-{
-}
+{}

@@ -24,3 +24,6 @@ pub use reading::read_event;
 pub use sizes::event_size;
 pub use stage::Stage;
 pub use writing::write_event;
+
+#[cfg(test)]
+mod tests;
