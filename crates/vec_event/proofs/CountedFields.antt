@@ -1,5 +1,5 @@
 -- Fields that begin with a count are read as they are spelled.
-use Rattle.std.proofs.Common.{◌≡◌, ℕ, zero, suc, ◌+◌, ◌*◌, ◌/◌, ◌<◌, ◌≤◌, ◌^◌, Bool, List, [], ◌∷◌, ◌++◌, length, get_or, Option, refl, sym, ap, subst, ◌∙◌, arith, lit<, lit≤}
+use Rattle.std.proofs.Common.{◌≡◌, ℕ, zero, suc, ◌+◌, ◌*◌, ◌/◌, ◌<◌, ◌≤◌, ◌^◌, List, [], ◌∷◌, ◌++◌, length, get_or, refl, sym, ap, subst, ◌∙◌, arith, lit<, lit≤}
 use Rattle.std.specs.Prelude.{⊤, All}
 use Rattle.std.specs.List.{flat_map, AllByRecursion}
 use Rattle.std.specs.Int.{w16, w32, to_le_bytes}
@@ -7,11 +7,10 @@ use Rattle.std.proofs.lemmas.List.{get_or_default}
 use Rattle.std.proofs.lemmas.List.Concat.{flat_map-cons}
 use Rattle.std.proofs.lemmas.List.Elements.{All-from_recursion, recursion_from_All}
 use Rattle.bit_code.specs.Places.{packed}
-use Rattle.vec_names.specs.declared.tid.Tid.{Tid}
 use Rattle.vec_names.specs.Pointer.{tid_option_bytes}
 use Rattle.vec_event.specs.Spelling.{bits_bytes, lists_bytes, offsets_bytes, AreBits, RisesFrom}
-use Rattle.vec_event.specs.Reading.{Read, Got, Bad, Short, Reader, times, rising, optional_place, two_bytes_from, two_bytes_above, four_bytes_from, packed_places, bits, lists, offsets}
-use Rattle.vec_event.proofs.FieldLaws.{AreBytes, IsField, got_is, got_not_bad, next_law, depending_law, wider}
+use Rattle.vec_event.specs.Reading.{Got, Reader, times, rising, optional_place, two_bytes_from, two_bytes_above, four_bytes_from, packed_places, bits, lists, offsets}
+use Rattle.vec_event.proofs.FieldLaws.{IsField, got_is, got_not_bad, next_law, depending_law, wider}
 use Rattle.vec_event.proofs.EachField.{optional_place_field, two_bytes_field, above_field, four_bytes_field, packed_field}
 
 -- ---- bit values

@@ -1,19 +1,18 @@
 -- Each field is read as it is spelled.
-use Rattle.std.proofs.Common.{◌≡◌, ℕ, zero, suc, ◌+◌, ◌*◌, ◌/◌, ◌<◌, ◌≤◌, ◌^◌, Bool, true, false, not, ◌&&◌, leb, ltb, eqb, List, [], ◌∷◌, ◌++◌, length, take, drop, Option, Some, None, refl, sym, ap, subst, ◌∙◌, arith, lit<, lit≤}
-use Rattle.std.specs.Prelude.{slice_index, IfSome, ⊤}
-use Rattle.std.specs.List.{flat_map, list_all}
+use Rattle.std.proofs.Common.{◌≡◌, ℕ, ◌+◌, ◌/◌, ◌<◌, ◌≤◌, ◌^◌, Bool, true, false, not, ◌&&◌, leb, ltb, eqb, List, [], ◌∷◌, length, take, drop, Option, Some, None, refl, sym, ap, subst, ◌∙◌, arith}
+use Rattle.std.specs.Prelude.{slice_index, ⊤}
+use Rattle.std.specs.List.{list_all}
 use Rattle.std.specs.Int.{w16, w32, to_le_bytes, from_le_bytes}
 use Rattle.std.proofs.lemmas.Bool.{and_parts, and_from, leb-true, le-leb, ltb-true, lt-ltb, eqb-true, eq-eqb}
 use Rattle.std.proofs.lemmas.Nat.{le_bytes_2, le_bytes_4, from_le_bytes-to_le_bytes_2, from_le_bytes-to_le_bytes_4}
-use Rattle.bit_code.specs.Places.{unpacked, packed, Packed}
+use Rattle.bit_code.specs.Places.{unpacked, packed}
 use Rattle.bit_code.proofs.ExactPacking.{length-packed, packed-Packed, unpacked-packed, packed-take, length-take}
 use Rattle.vec_names.specs.declared.tid.Tid.{Tid}
-use Rattle.vec_names.specs.declared.heap_id.HeapId.{HeapId}
 use Rattle.vec_names.specs.Pointer.{tid_bytes, tid_option_bytes, heap_id_bytes, tid_in, tid_option_in, heap_id_in, block_in, off_in}
 use Rattle.vec_names.proofs.Pointers.{length-pointer_bytes, pointer_bytes-back, tid_in-again, tid_of-spelled, tid_option_in-again, tid_option_of-spelled, heap_id_in-again, heap_id_of-spelled}
-use Rattle.vec_event.specs.Reading.{Reader, field, only_if, kind, byte, version, place, optional_place, heap_id, number_of_two, two_bytes_from, two_bytes_above, four_bytes_from, packed_places, level_of}
+use Rattle.vec_event.specs.Reading.{field, only_if, kind, byte, version, place, optional_place, heap_id, number_of_two, two_bytes_from, two_bytes_above, four_bytes_from, packed_places, level_of}
 use Rattle.vec_event.proofs.Clear.{clear_packed, packed_clear}
-use Rattle.vec_event.proofs.FieldLaws.{AreBytes, IsField, Means, field_law}
+use Rattle.vec_event.proofs.FieldLaws.{AreBytes, IsField, field_law}
 
 some_is : {A : Type 0} (x y : A) → Some x ≡ Some y → x ≡ y
 some_is x y e = cc

@@ -1,5 +1,5 @@
 -- Each kind of event is read as it is spelled.
-use Rattle.std.proofs.Common.{◌≡◌, ℕ, ◌+◌, ◌<◌, ◌≤◌, ◌^◌, Bool, List, [], ◌∷◌, ◌++◌, drop, Option, Some, None, refl, arith, lit<, lit≤}
+use Rattle.std.proofs.Common.{◌≡◌, ℕ, ◌+◌, ◌<◌, ◌≤◌, ◌^◌, Bool, List, ◌++◌, drop, Option, Some, None, refl, arith, lit<, lit≤}
 use Rattle.std.specs.Prelude.{slice_index}
 use Rattle.vec_names.specs.declared.tid.Tid.{Tid}
 use Rattle.vec_names.specs.declared.heap_id.HeapId.{HeapId}
@@ -10,7 +10,7 @@ use Rattle.vec_event.specs.Spelling.{spelling, IsTyped, IsWritable, IsLevelOf}
 use Rattle.vec_event.specs.Reading.{Reader, ◌⨟◌, and_then, place, optional_place, version, byte, heap_id, bits, lists, number_of_two, two_bytes_from, offsets, level_of, block, four_bytes_from, put, join, link, relist, drop_ids, mark, entry, hint, ivf_add, ivf_grow, ivf_drop, ivf_hint}
 use Rattle.vec_event.proofs.FieldLaws.{IsField, then_law, next_law, viewed_law, wider}
 use Rattle.vec_event.proofs.EachField.{one_byte, byte_field, version_field, level_field, FitsLevel, number_field, two_bytes_field, four_bytes_field, place_field, optional_place_field, heap_id_field}
-use Rattle.vec_event.proofs.CountedFields.{bits_field, lists_field, offsets_field, Offsets, Offsets-from, small_offsets, rising_offsets}
+use Rattle.vec_event.proofs.CountedFields.{bits_field, lists_field, offsets_field, Offsets-from, small_offsets, rising_offsets}
 
 -- the first byte of an event's spelling, and what follows it
 abbrev pub kind_of : Event → ℕ
@@ -25,9 +25,9 @@ OfKind k e = (kind_of e ≡ k) × IsTyped e × IsWritable e
 up_to : {A : Type 0} {f : Reader A} {s : A → List ℕ} {P : A → Type 0} {k : ℕ} → IsField f s P k → k ≤ 200000 → IsField f s P 200000
 up_to {k = k} law le = wider k 200000 le law
 
--- nothing is below 0
-z : {n : ℕ} → 0 ≤ n
-z = omega arith
+-- nothing is below 0, so a number from 0 on has one bound to keep
+from_zero : {n : ℕ} → 0 ≤ n
+from_zero = omega arith
 
 -- what the fields of an event of this kind are
 abbrev Parts : {B : Type 0} {f : Reader B} {t : B → List ℕ} {Q : B → Type 0} {j : ℕ} → IsField f t Q j → (B → Event) → ℕ → Type 0
@@ -136,7 +136,7 @@ ivf_add_of x = IvfAdd x.0 x.1.0 x.1.1
 
 ivf_add_parts : Parts (then_law (four_bytes_field 0 32767 (lit< tt)) (then_law heap_id_field bits_field)) ivf_add_of 9
 unfolding spelling IsTyped IsWritable
-ivf_add_parts (IvfAdd block id bits) p = ((block, (id, bits)), refl, ((z, p.2), (tt, p.1)), refl)
+ivf_add_parts (IvfAdd block id bits) p = ((block, (id, bits)), refl, ((from_zero, p.2), (tt, p.1)), refl)
 ivf_add_parts e p = absurd (omega (arith, p.0))
 
 pub ivf_add_field : IsField ivf_add fields_bytes (OfKind 9) 200000
@@ -152,7 +152,7 @@ ivf_grow_of x = IvfGrow x.0 x.1.0 x.1.1.0 x.1.1.1.0 x.1.1.1.1
 
 ivf_grow_parts : Parts (then_law (four_bytes_field 0 32767 (lit< tt)) (then_law (four_bytes_field 0 32767 (lit< tt)) (then_law (four_bytes_field 0 32767 (lit< tt)) (then_law heap_id_field bits_field)))) ivf_grow_of 10
 unfolding spelling IsTyped IsWritable
-ivf_grow_parts (IvfGrow list last block id bits) p = ((list, (last, (block, (id, bits)))), refl, ((z, p.2.0), ((z, p.2.1), ((z, p.2.2), (tt, p.1)))), refl)
+ivf_grow_parts (IvfGrow list last block id bits) p = ((list, (last, (block, (id, bits)))), refl, ((from_zero, p.2.0), ((from_zero, p.2.1), ((from_zero, p.2.2), (tt, p.1)))), refl)
 ivf_grow_parts e p = absurd (omega (arith, p.0))
 
 pub ivf_grow_field : IsField ivf_grow fields_bytes (OfKind 10) 200000
@@ -168,7 +168,7 @@ ivf_drop_of x = IvfDrop x.0 x.1
 
 ivf_drop_parts : Parts (then_law (four_bytes_field 0 32767 (lit< tt)) offsets_field) ivf_drop_of 11
 unfolding spelling IsTyped IsWritable
-ivf_drop_parts (IvfDrop block gone) p = ((block, gone), refl, ((z, p.2.0), (p.2.1, Offsets-from gone p.2.2 p.1)), refl)
+ivf_drop_parts (IvfDrop block gone) p = ((block, gone), refl, ((from_zero, p.2.0), (p.2.1, Offsets-from gone p.2.2 p.1)), refl)
 ivf_drop_parts e p = absurd (omega (arith, p.0))
 
 pub ivf_drop_field : IsField ivf_drop fields_bytes (OfKind 11) 200000
@@ -184,7 +184,7 @@ ivf_hint_of x = IvfHint x.0 x.1
 
 ivf_hint_parts : Parts (then_law (four_bytes_field 0 32767 (lit< tt)) (four_bytes_field 0 32767 (lit< tt))) ivf_hint_of 12
 unfolding spelling IsTyped IsWritable
-ivf_hint_parts (IvfHint list block) p = ((list, block), refl, ((z, p.2.0), (z, p.2.1)), refl)
+ivf_hint_parts (IvfHint list block) p = ((list, block), refl, ((from_zero, p.2.0), (from_zero, p.2.1)), refl)
 ivf_hint_parts e p = absurd (omega (arith, p.0))
 
 pub ivf_hint_field : IsField ivf_hint fields_bytes (OfKind 12) 200000
@@ -226,7 +226,7 @@ entry_field =
 
 hint_parts : Parts (four_bytes_field 0 32768 (lit< tt)) Hint 8
 unfolding spelling IsTyped IsWritable
-hint_parts (Hint block) p = (block, refl, (z, p.2), refl)
+hint_parts (Hint block) p = (block, refl, (from_zero, p.2), refl)
 hint_parts e p = absurd (omega (arith, p.0))
 
 pub hint_field : IsField hint fields_bytes (OfKind 8) 200000

@@ -4,7 +4,6 @@ use Rattle.std.specs.List.{flat_map}
 use Rattle.std.specs.Int.{w16, to_le_bytes}
 use Rattle.std.proofs.lemmas.List.{length-append}
 use Rattle.std.proofs.lemmas.List.Concat.{flat_map-cons}
-use Rattle.bit_code.specs.Places.{packed}
 use Rattle.vec_names.specs.declared.tid.Tid.{Tid}
 use Rattle.vec_names.specs.Pointer.{pointer_bytes, tid_option_bytes}
 use Rattle.vec_names.proofs.Pointers.{length-pointer_bytes}

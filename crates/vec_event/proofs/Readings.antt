@@ -5,7 +5,7 @@ use Rattle.std.proofs.lemmas.List.Concat.{flat_map-cons}
 use Rattle.std.proofs.lemmas.List.{append-nil, length-append, drop_at}
 use Rattle.vec_event.specs.declared.event.Event.{Event}
 use Rattle.vec_event.specs.Spelling.{spelling, IsTyped, IsWritable}
-use Rattle.vec_event.specs.Reading.{Read, Got, Bad, Short, kind, field, event}
+use Rattle.vec_event.specs.Reading.{Got, Bad, Short, kind, field, event}
 use Rattle.vec_event.proofs.FieldLaws.{AreBytes, got_is, got_not_bad}
 use Rattle.vec_event.proofs.EachEvent.{event_field}
 

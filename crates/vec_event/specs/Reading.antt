@@ -1,5 +1,5 @@
 -- Reading an event from left to right, field by field, up to the first fault.
-use Rattle.std.specs.Prelude.{◌≡◌, ℕ, zero, suc, ◌+◌, ◌/◌, ◌≤◌, Bool, not, ◌&&◌, nat_lt, nat_le, ◌==◌, if◌then◌else◌, List, [], ◌∷◌, length, take, drop, slice_index, Option, Some, None}
+use Rattle.std.specs.Prelude.{ℕ, zero, suc, ◌+◌, ◌/◌, Bool, not, ◌&&◌, nat_lt, nat_le, ◌==◌, if◌then◌else◌, List, [], ◌∷◌, length, take, drop, slice_index, Option, Some, None}
 use Rattle.std.specs.List.{list_all}
 use Rattle.std.specs.Int.{w16, w32, from_le_bytes}
 use Rattle.bit_code.specs.Places.{unpacked}
@@ -68,12 +68,14 @@ times f (suc n) bytes = with_next (λ v vs. v ∷ vs) f (λ _. times f n) bytes
 abbrev pub only_if : {A : Type 0} → Bool → A → Option A
 only_if allowed v = if allowed then Some v else None
 
+-- one byte, 1 to 12
 unfoldable pub kind : Reader ℕ
 kind = field 1 (λ b. only_if (nat_le 1 (slice_index b 0) && nat_le (slice_index b 0) 12) (slice_index b 0))
 
 unfoldable pub byte : Reader ℕ
 byte = field 1 (λ b. Some (slice_index b 0))
 
+-- one byte, not 0
 unfoldable pub version : Reader ℕ
 version = field 1 (λ b. only_if (nat_le 1 (slice_index b 0)) (slice_index b 0))
 
@@ -106,9 +108,11 @@ four_bytes_from low high = field 4 (λ b. only_if (nat_le low (from_le_bytes w32
 unfoldable pub packed_places : ℕ → Reader (List Bool)
 packed_places count = field ((count + 7) / 8) (λ b. only_if (list_all not (drop count (unpacked b))) (take count (unpacked b)))
 
+-- four bytes of a count of places, 1 to 64,000, and the packed places
 unfoldable pub bits : Reader (List Bool)
 bits = depending (four_bytes_from 1 64000) packed_places
 
+-- two bytes of a count, at most 1,358, and that many optional places
 unfoldable pub lists : Reader (List (Option Tid))
 lists = depending (two_bytes_from 0 1358) (times optional_place)
 
@@ -117,6 +121,7 @@ unfoldable pub rising : ℕ → ℕ → Reader (List ℕ)
 rising low zero bytes = Got [] bytes
 rising low (suc n) bytes = with_next (λ v vs. v ∷ vs) (two_bytes_above low) (λ v. rising v n) bytes
 
+-- two bytes of a count, not 0, and that many offsets that rise
 unfoldable pub offsets : Reader (List ℕ)
 offsets = depending (two_bytes_from 1 65535) (rising 0)
 
@@ -153,6 +158,7 @@ entry = viewed (λ x. events.Entry x.0 x.1) (and_then optional_place level_of)
 unfoldable pub hint : Reader Event
 hint = viewed events.Hint (four_bytes_from 0 32768)
 
+-- a block, or the number of a list
 abbrev pub block : Reader ℕ
 block = four_bytes_from 0 32767
 
@@ -184,5 +190,6 @@ fields_of k =
     else (if k == 11 then ivf_drop
     else ivf_hint))))))))))
 
+-- an event: its kind, and its fields
 unfoldable pub event : Reader Event
 event = depending kind fields_of

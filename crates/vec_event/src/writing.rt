@@ -1,6 +1,6 @@
 //! Writing an event.
 
-ghost use Rattle.std.specs.Prelude.{◌≡◌, ◌≤◌, ◌<◌, ◌^◌, ◌+◌, ◌++◌, length, OnOk, OnErr, IfErr, vec_len, vec_capacity, Some, Option};
+ghost use Rattle.std.specs.Prelude.{◌≡◌, ◌≤◌, ◌<◌, ◌^◌, ◌+◌, ◌++◌, length, OnOk, OnErr, IfErr, IsOk, vec_len, vec_capacity, Some, Option};
 ghost use Rattle.vec_event.specs.Spelling.{spelling, bits_bytes, lists_bytes, offsets_bytes, RisesFrom, IsWritable};
 
 use crate::event::Event;
@@ -11,14 +11,15 @@ use bit_code::Bits;
 use vec_names::{HeapId, Tid};
 
 /// Appends the spelling of a lasting event with no value that is not allowed, as `read_event` reads it.
-/// The only fault is `Memory`, and then the bytes are as before; with room for `event_size` more bytes
-/// no memory is taken.
+/// The only fault is `Memory`, and then the bytes are as before; it does not come where there is room for
+/// `event_size` more bytes.
 #[tactic(auto, unfolding(crate::specs::Spelling::IsWritable))]
 pub fn write_event(event: &Event, into: &mut Vec<u8>) -> Result<(), EventFault>
     requires { IsWritable event.now }
     ensures ok { OnOk result (into.new.items ≡ into.old.items ++ spelling event.now) }
     ensures err { OnErr result (into.new.items ≡ into.old.items) }
     ensures memory { IfErr result (λ fault. fault ≡ EventFault.Memory) }
+    ensures room { vec_len into.old + length (spelling event.now) ≤ vec_capacity into.old → IsOk result }
 {
     into.reserve(event_size(event) as usize)?;
     put_event(event, into);
