@@ -1,4 +1,4 @@
-use Rattle.std.proofs.Common.{◌≡◌, ℕ, ◌+◌, ◌-◌, ◌*◌, ◌%◌, ◌^◌, [], length, get_or, slice_set, refl, ap, subst, ◌∙◌, arith, sym}
+use Rattle.std.proofs.Common.{◌≡◌, ℕ, ◌+◌, ◌-◌, ◌*◌, ◌%◌, ◌^◌, [], length, get_or, slice_set, ap, subst, ◌∙◌, arith, sym}
 use Rattle.std.specs.Prelude.{IsSomeAnd}
 use Rattle.page_bytes.specs.Content.{Content, item_at}
 use Rattle.page_bytes.specs.Splice.{spliced}
