@@ -1,25 +1,24 @@
 -- The format of pages and the spelling of pages are the same bytes.
-use Rattle.std.proofs.Common.{◌≡◌, ℕ, zero, suc, ◌+◌, ◌-◌, ◌*◌, ◌/◌, ◌%◌, ◌^◌, ◌<◌, ◌≤◌, ◌⊎◌, inl, inr, Bool, true, false, cond, nat_eq, List, [], ◌∷◌, ◌++◌, Option, Some, None, length, get_or, map, reverse, refl, sym, ap, ◌∙◌, subst, arith, rules, append_assoc}
+use Rattle.std.proofs.Common.{◌≡◌, ℕ, zero, suc, ◌+◌, ◌-◌, ◌*◌, ◌/◌, ◌^◌, ◌<◌, ◌≤◌, inl, inr, Bool, cond, nat_eq, List, [], ◌∷◌, ◌++◌, Option, Some, None, length, get_or, map, reverse, refl, sym, ap, ◌∙◌, subst, arith, append_assoc}
 use mathlib.Core.List.{reverse_aux}
 use Rattle.std.specs.Int.{w16, w32, w64, to_le_bytes, from_le_bytes}
 use Rattle.std.specs.List.{All}
 use Rattle.std.proofs.lemmas.Bool.{cases_lt, cases_eq, eq-eqb, ne_eqb}
-use Rattle.std.proofs.lemmas.Bool.Decides.{nat_tests}
-use Rattle.std.proofs.lemmas.List.{get_or-map, get_or_past, append-nil, length-append, length-map, length-reverse, map-append, reverse-append, reverse-reverse, length-replicate}
-use Rattle.std.proofs.lemmas.List.Elements.{All-nil, All-cons, All-head, All-tail, All-push, All-get_or}
+use Rattle.std.proofs.lemmas.List.{get_or-map, get_or_past, length-map, map-append, reverse-append, reverse-reverse}
+use Rattle.std.proofs.lemmas.List.Elements.{All-nil, All-cons, All-push}
 use Rattle.std.proofs.lemmas.Nat.{le_bytes_8}
-use Rattle.page_bytes.specs.Content.{Content, IsPage, IsItem, IsNext, round8, taken, lower_of, upper_of}
+use Rattle.page_bytes.specs.Content.{Content, IsItem, IsNext, round8, taken, lower_of, upper_of}
 use Rattle.page_bytes.specs.Spelling.{zeros, header, line_pointer, line_pointers, padded, stacked, special, spelling, next_word, kind_word}
-use Rattle.page_bytes.specs.Decoding.{next_from, kind_from, Spells}
+use Rattle.page_bytes.specs.Decoding.{kind_from, Spells}
 use Rattle.page_bytes.specs.declared.kind.PageKind.{PageKind}
-use Rattle.page_bytes.specs.declared.kind.PageKind.TheVariants.{Meta, Hnsw, IvfLists, IvfEntries}
-use Rattle.page_bytes.specs.Format.{Format, free, fixed, half, pointer, kinds, ending, stack, pointers, behind_upper, least_upper, most_upper, behind_lower, page, room_of, InHalf, InPointer, Allows, Room}
-use Rattle.page_bytes.specs.Format.Format.{Done, Byte}
-use Rattle.page_bytes.proofs.Placing.{Rounds, rounds, taken-nil, taken-cons, taken-append, taken-whole, line_pointers-cons, length-padded, stacked-cons, stacked-append, length-stacked}
-use Rattle.page_bytes.proofs.Changes.{stacked-nil, stacked-one, line_pointers-nil, spelling-from}
+use Rattle.page_bytes.specs.declared.kind.PageKind.TheVariants.{IvfEntries}
+use Rattle.page_bytes.specs.Format.{Format, fixed, half, kinds, ending, stack, pointers, behind_upper, least_upper, most_upper, behind_lower, page, room_of, InHalf, Room}
+use Rattle.page_bytes.specs.Format.Format.{Done}
+use Rattle.page_bytes.proofs.Placing.{stacked-append}
+use Rattle.page_bytes.proofs.Changes.{stacked-nil, stacked-one, spelling-from}
 use Rattle.page_bytes.proofs.Formats.{Matches}
-use Rattle.page_bytes.proofs.Parts.{by_1, by_4, by_8, Free, Half, Pointer, free_matched, free_match, fixed_matched, fixed_match, half_matched, half_match, pointer_matched, pointer_match, four}
-use Rattle.page_bytes.proofs.Alive.{room_allows, room_after, Uppers, uppers, first_room}
+use Rattle.page_bytes.proofs.Parts.{free_matched, fixed_matched, half_matched, pointer_matched, four}
+use Rattle.page_bytes.proofs.Alive.{room_allows, room_after, first_room}
 
 -- ---- line pointers by lengths
 
@@ -154,12 +153,12 @@ kinds-some low high n = let t = ne_eqb (low + high * 2 ^ 16) 0xFFFFFFFF n in ap 
 kinds_matched : (low high : ℕ) (bytes : List ℕ) → low < 2 ^ 16 → high < 2 ^ 16 → Matches (kinds low high) bytes → Kinded (low + high * 2 ^ 16) bytes
 kinds_matched low high bytes l h m = elim (cases_eq (low + high * 2 ^ 16) 0xFFFFFFFF) [
   | inl e ↦
-    let k = kind_matched 1 bytes (subst (λ (f : Format). Matches f bytes) (kinds-none low high e) m) in
-    record { next = None; kind = kind_from k.0; fits = tt; word_is = sym e; same = k.3 ∙ ap (λ (n : ℕ). to_le_bytes w16 0 ++ to_le_bytes w16 n) (sym (kind_word-from k.0 k.1 k.2)) }
+      let k = kind_matched 1 bytes (subst (λ (f : Format). Matches f bytes) (kinds-none low high e) m) in
+      record { next = None; kind = kind_from k.0; fits = tt; word_is = sym e; same = k.3 ∙ ap (λ (n : ℕ). to_le_bytes w16 0 ++ to_le_bytes w16 n) (sym (kind_word-from k.0 k.1 k.2)) }
   | inr n ↦
-    let k = kind_matched 4 bytes (subst (λ (f : Format). Matches f bytes) (kinds-some low high n) m) in
-    let four : k.0 ≡ 4 = omega (arith, k.1, k.2) in
-    record { next = Some (low + high * 2 ^ 16); kind = IvfEntries; fits = (refl, omega (arith, n)); word_is = refl; same = k.3 ∙ ap (λ (n : ℕ). to_le_bytes w16 0 ++ to_le_bytes w16 n) four }
+      let k = kind_matched 4 bytes (subst (λ (f : Format). Matches f bytes) (kinds-some low high n) m) in
+      let four : k.0 ≡ 4 = omega (arith, k.1, k.2) in
+      record { next = Some (low + high * 2 ^ 16); kind = IvfEntries; fits = (refl, omega (arith, n)); word_is = refl; same = k.3 ∙ ap (λ (n : ℕ). to_le_bytes w16 0 ++ to_le_bytes w16 n) four }
 ]
 
 ending_matched : (bytes : List ℕ) → Matches ending bytes → Ended bytes
@@ -228,11 +227,13 @@ fields_spell bytes lower upper first new items next kind f =
     let t : List ℕ = line_pointers 8184 items ++ (zeros (upper - lower) ++ (stacked items ++ special next kind)) in
     let spelled : spelling p ≡ header number lower upper ++ t = spelling-from p lower upper (upper - lower) lower_is upper_is (omega (arith, r.1)) in
     let pointers_are : pointer_bytes 8184 new ≡ line_pointers 8184 items = ap (pointer_bytes 8184) (sym lens) ∙ pointer_bytes-map 8184 items in
-    let first_is : first ≡ to_le_bytes w64 number = sym (le_bytes_8 first number f.long small refl) in
-    (p, record {
-      page = record { next = f.next_fits; number = number_small first small; items = sized new items lens f.some f.fits; room = omega (arith, f.room, r.1, f.count, f.lower_in.even, f.lower_in.least) };
-      same = f.same ∙ ap (λ (s : List ℕ). first ++ (zeros 4 ++ (to_le_bytes w16 lower ++ (to_le_bytes w16 upper ++ ((0xF8 ∷ 0x1F ∷ 0x04 ∷ 0x20 ∷ 0 ∷ 0 ∷ 0 ∷ 0 ∷ []) ++ (s ++ (zeros (upper - lower) ++ (stacked items ++ special next kind)))))))) pointers_are ∙ ap (λ (s : List ℕ). s ++ (zeros 4 ++ (to_le_bytes w16 lower ++ (to_le_bytes w16 upper ++ ((0xF8 ∷ 0x1F ∷ 0x04 ∷ 0x20 ∷ 0 ∷ 0 ∷ 0 ∷ 0 ∷ []) ++ t))))) first_is ∙ sym (header_fields number lower upper t) ∙ sym spelled;
-    })
+    let first_is : first ≡ to_le_bytes w64 number = sym (le_bytes_8 first number f.long small refl) in (
+      p,
+      record {
+        page = record { next = f.next_fits; number = number_small first small; items = sized new items lens f.some f.fits; room = omega (arith, f.room, r.1, f.count, f.lower_in.even, f.lower_in.least) };
+        same = f.same ∙ ap (λ (s : List ℕ). first ++ (zeros 4 ++ (to_le_bytes w16 lower ++ (to_le_bytes w16 upper ++ ((0xF8 ∷ 0x1F ∷ 0x04 ∷ 0x20 ∷ 0 ∷ 0 ∷ 0 ∷ 0 ∷ []) ++ (s ++ (zeros (upper - lower) ++ (stacked items ++ special next kind)))))))) pointers_are ∙ ap (λ (s : List ℕ). s ++ (zeros 4 ++ (to_le_bytes w16 lower ++ (to_le_bytes w16 upper ++ ((0xF8 ∷ 0x1F ∷ 0x04 ∷ 0x20 ∷ 0 ∷ 0 ∷ 0 ∷ 0 ∷ []) ++ t))))) first_is ∙ sym (header_fields number lower upper t) ∙ sym spelled;
+      },
+    )
 
 -- what follows pd_lower and pd_upper
 record Behind (lower upper : ℕ) (bytes : List ℕ) : Type 0 where

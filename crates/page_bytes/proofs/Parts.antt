@@ -1,18 +1,17 @@
 -- The parts of a format: free bytes, fixed bytes and half words within bounds.
-use Rattle.std.proofs.Common.{◌≡◌, ℕ, zero, suc, ◌+◌, ◌-◌, ◌*◌, ◌/◌, ◌%◌, ◌^◌, ◌<◌, ◌≤◌, ◌⊎◌, inl, inr, Bool, true, false, cond, nat_eq, nat_lt, nat_le, ◌&&◌, List, [], ◌∷◌, ◌++◌, length, get_or, take, drop, refl, sym, ap, ◌∙◌, subst, arith, rules}
+use Rattle.std.proofs.Common.{◌≡◌, ℕ, zero, suc, ◌+◌, ◌-◌, ◌*◌, ◌/◌, ◌%◌, ◌^◌, ◌<◌, ◌≤◌, Bool, true, false, nat_eq, nat_lt, nat_le, ◌&&◌, List, [], ◌∷◌, ◌++◌, length, get_or, drop, refl, sym, ap, ◌∙◌, subst, arith}
 use Rattle.std.specs.Int.{w16, to_le_bytes}
 use Rattle.std.specs.List.{All}
 use Rattle.std.proofs.Math.Nat.{add-mul-mod_self_left}
 use Rattle.std.proofs.lemmas.Bool.{false≢true, eq-eqb, eqb-true, ltb-true, lt-ltb, leb-true, le-leb, false_from_ne_true}
-use Rattle.std.proofs.lemmas.Bool.Decides.{nat_tests}
 use Rattle.std.proofs.lemmas.Nat.{div-add-mod'}
 use Rattle.std.proofs.lemmas.List.Elements.{All-nil, All-cons, All-head, All-tail}
 use Rattle.page_bytes.specs.Content.{round8}
-use Rattle.page_bytes.specs.Spelling.{zeros, line_pointer}
-use Rattle.page_bytes.specs.Format.{Format, first_bad, bad_place, free, fixed, begins_half, is_half, half, pointer, InHalf, InPointer, Allows}
-use Rattle.page_bytes.specs.Format.Format.{Done, Byte}
-use Rattle.page_bytes.proofs.Placing.{Rounds, rounds}
-use Rattle.page_bytes.proofs.Formats.{Matches, Live, either, passes, stops}
+use Rattle.page_bytes.specs.Spelling.{line_pointer}
+use Rattle.page_bytes.specs.Format.{Format, first_bad, free, fixed, begins_half, is_half, half, pointer, InHalf, InPointer, Allows}
+use Rattle.page_bytes.specs.Format.Format.{Byte}
+use Rattle.page_bytes.proofs.Placing.{rounds}
+use Rattle.page_bytes.proofs.Formats.{Matches, Live, passes, stops}
 
 -- ---- free bytes
 
@@ -180,8 +179,7 @@ unfolding half Live
 half_live low high step next s order even l =
     let e : high % 256 + (high / 256) * 2 ^ 8 ≡ high = omega arith in
     let h : InHalf low high step high = record { least = order; most = omega arith; even = even } in
-    let g : InHalf low high step (high % 256 + (high / 256) * 2 ^ 8) = subst (InHalf low high step) (sym e) h in
-    (
+    let g : InHalf low high step (high % 256 + (high / 256) * 2 ^ 8) = subst (InHalf low high step) (sym e) h in (
       (high % 256, begins-from low high step (high % 256) (first_of low high step (high % 256) (high / 256) s (omega arith) g)),
       λ a f. let w = some_half low high step a s (begins-true low high step a f) in ((w.0, is_half-from low high step (a + w.0 * 2 ^ 8) w.1), λ b t. l (a + b * 2 ^ 8) (is_half-true low high step (a + b * 2 ^ 8) t)),
     )

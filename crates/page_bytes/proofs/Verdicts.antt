@@ -1,9 +1,9 @@
 -- What the first bad place says of pages.
-use Rattle.std.proofs.Common.{◌≡◌, ℕ, zero, suc, ◌+◌, ◌-◌, ◌*◌, ◌<◌, ◌≤◌, ◌⊎◌, inl, inr, List, [], ◌∷◌, ◌++◌, length, min, take, drop, replicate, refl, sym, ap, ◌∙◌, subst, arith, append_assoc}
-use Rattle.std.proofs.lemmas.Bool.{cases_lt, cases_eq}
-use Rattle.std.proofs.lemmas.List.{append-nil, take_all, take_at, take-take, take-append-drop, take-append-le, drop-append-le, length-append, length-take, length-take-le, length-drop, length-replicate, nil_from_length}
-use Rattle.page_bytes.specs.Content.{Content, IsPage}
-use Rattle.page_bytes.specs.Spelling.{zeros, spelling}
+use Rattle.std.proofs.Common.{◌≡◌, ℕ, suc, ◌+◌, ◌<◌, ◌≤◌, inl, inr, List, ◌++◌, length, min, take, drop, sym, ap, ◌∙◌, subst, arith, append_assoc}
+use Rattle.std.proofs.lemmas.Bool.{cases_lt}
+use Rattle.std.proofs.lemmas.List.{append-nil, take_all, take_at, take-take, take-append-drop, length-append, length-take-le, nil_from_length}
+use Rattle.page_bytes.specs.Content.{Content}
+use Rattle.page_bytes.specs.Spelling.{spelling}
 use Rattle.page_bytes.specs.Decoding.{Spells}
 use Rattle.page_bytes.specs.Splice.{spliced}
 use Rattle.page_bytes.specs.Faults.{BeginsPage, IsFirstFault}
@@ -73,9 +73,9 @@ first_fault_is bytes whole n at long n_is same at_is not_whole =
       earlier = subst BeginsPage (take-take at bad whole (omega (arith, at_is)) ∙ front) (fewer (take bad whole) at (begins_page whole));
       here = λ h b. elim (cases_lt bad 8192) [
         | inl low ↦
-          let next : at + 1 ≡ suc bad = omega (arith, at_is) in
-          let front' : take (suc bad) bytes ≡ take (suc bad) whole = sym (same_front bytes whole n (suc bad) same (omega (arith, n_is, at_is))) in
-          no_page whole (omega (arith, long)) (subst BeginsPage (ap (λ (k : ℕ). take k bytes) next ∙ front') b)
+            let next : at + 1 ≡ suc bad = omega (arith, at_is) in
+            let front' : take (suc bad) bytes ≡ take (suc bad) whole = sym (same_front bytes whole n (suc bad) same (omega (arith, n_is, at_is))) in
+            no_page whole (omega (arith, long)) (subst BeginsPage (ap (λ (k : ℕ). take k bytes) next ∙ front') b)
         | inr high ↦ not_longer (take (at + 1) bytes) (omega (arith, length-take-le (at + 1) bytes (omega arith), at_is)) b
       ];
       short = λ e. elim (cases_lt at 8192) [

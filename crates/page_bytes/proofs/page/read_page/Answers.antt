@@ -1,7 +1,5 @@
-use Rattle.std.proofs.Common.{◌≡◌, ℕ, ◌⊎◌, inl, inr, List, length, min, Ok, refl, sym, ap, ◌∙◌, subst, arith}
-use Rattle.page_bytes.specs.Content.{Content}
+use Rattle.std.proofs.Common.{ℕ, inl, inr, List, length, min, Ok, refl, sym, ap, ◌∙◌, subst}
 use Rattle.page_bytes.specs.Decoding.{Spells, content}
-use Rattle.page_bytes.specs.Format.{first_bad, page}
 use Rattle.page_bytes.proofs.Whole.{IsSpelled-from, spelled}
 use Rattle.page_bytes.proofs.Verdicts.{whole_page, page_has_none, same_whole, first_fault_is}
 use Rattle.page_bytes.proofs.page.read_page.Goals as goal
@@ -27,11 +25,11 @@ returns-then-bytes-eq-SIZE-clause-only c =
 pub returns-clause-only : goal.returns-clause-only
 returns-clause-only c =
     λ p s.
-      let n = page_has_none c.args.bytes.now c.first_bytes-whole.result p c.first_bytes-whole.ensures.long c.first_bytes-whole.ensures.same s in
-      elim c.else-at-eq8192.either [
-        | inl e ↦ absurd (e.1 n.1)
-        | inr e ↦ absurd (e (c.first_fault-at.ensures ∙ n.0))
-      ]
+    let n = page_has_none c.args.bytes.now c.first_bytes-whole.result p c.first_bytes-whole.ensures.long c.first_bytes-whole.ensures.same s in
+    elim c.else-at-eq8192.either [
+      | inl e ↦ absurd (e.1 n.1)
+      | inr e ↦ absurd (e (c.first_fault-at.ensures ∙ n.0))
+    ]
 
 pub returns-clause-fault : goal.returns-clause-fault
 returns-clause-fault c =

@@ -1,7 +1,7 @@
-use Rattle.std.proofs.Common.{◌≡◌, ℕ, ◌+◌, ◌-◌, ◌*◌, Ok, Err, refl, sym, ap, ◌∙◌, subst, arith}
+use Rattle.std.proofs.Common.{◌≡◌, ℕ, ◌+◌, ◌-◌, ◌*◌, Ok, Err, ◌∙◌, subst, arith}
 use Rattle.std.proofs.lemmas.Result.{err_from_is_err_and}
-use Rattle.page_bytes.specs.Format.{FindsPlace, Allows}
-use Rattle.page_bytes.proofs.Readers.{Read, read_none, read_allows, read_more, read_all, pointers_begin, pointers_on, pointers_off, pointers_end}
+use Rattle.page_bytes.specs.Format.{FindsPlace}
+use Rattle.page_bytes.proofs.Readers.{read_none, read_more, read_all, pointers_begin, pointers_on, pointers_off, pointers_end}
 use Rattle.page_bytes.proofs.reading.pointers_in.Goals as goal
 
 pub loop-i-init : goal.loop-i-init
@@ -15,8 +15,7 @@ returns-in_err-top c =
 
 pub loop-i-preserved : goal.loop-i-preserved
 loop-i-preserved c =
-    let found = subst (λ (m : ℕ). FindsPlace (c.args.upper + 8 * (c.args.count - c.loop-i.i - 1)) m c.loop-i.top c.args.bytes.now (24 + 4 * c.loop-i.i) (Ok c.in_ok-top.top)) c.most_place-most.ensures c.in_ok-top.ensures in
-    (
+    let found = subst (λ (m : ℕ). FindsPlace (c.args.upper + 8 * (c.args.count - c.loop-i.i - 1)) m c.loop-i.top c.args.bytes.now (24 + 4 * c.loop-i.i) (Ok c.in_ok-top.top)) c.most_place-most.ensures c.in_ok-top.ensures in (
       read_more c.args.bytes.now c.args.count c.args.upper c.loop-i.i c.loop-i.top c.in_ok-top.top c.loop-i-test.true c.loop-i.invariant.0 found.0,
       λ gap. c.loop-i.invariant.1 gap ∙ pointers_on c.args.count c.loop-i.i gap c.args.upper c.loop-i.top c.in_ok-top.top c.args.bytes.now c.loop-i-test.true found,
     )
