@@ -1,0 +1,175 @@
+-- Reading a tuple from left to right, field by field, up to the first whose value no tuple with the same earlier
+-- fields has.
+use Rattle.std.specs.Prelude.{ℕ, ◌+◌, ◌*◌, ◌/◌, Bool, not, ◌&&◌, nat_lt, nat_le, ◌==◌, if◌then◌else◌, List, [], ◌∷◌, length, take, drop, slice_index, Option, Some, None}
+use Rattle.std.specs.List.{list_all}
+use Rattle.std.specs.Int.{w16, w32, from_le_bytes}
+use Rattle.vec_names.specs.declared.tid.Tid.{Tid}
+use Rattle.vec_names.specs.declared.params.Kind.{Kind}
+use Rattle.vec_names.specs.declared.params.Kind.TheVariants.{Hnsw, Ivf}
+use Rattle.vec_names.specs.declared.params.Ops.{Ops}
+use Rattle.vec_names.specs.declared.params.Ops.TheVariants.{Hamming, Jaccard}
+use Rattle.vec_names.specs.declared.params.Params.{Params}
+use Rattle.vec_names.specs.Pointer.{tid_option_in, heap_id_in}
+use Rattle.vec_names.specs.declared.heap_id.HeapId.{HeapId}
+use Rattle.bit_code.specs.Places.{unpacked}
+use Rattle.vec_tuples.specs.declared.meta.Meta.{Meta}
+use Rattle.vec_tuples.specs.declared.entry.EntryRow.{EntryRow}
+use Rattle.vec_tuples.specs.declared.centre.CentreTuple.{CentreTuple}
+use Rattle.vec_tuples.specs.Spelling.{magic, length_word, row_with, centre_with}
+
+-- ---- readers
+
+-- what reading gives: a value and the bytes after it; or that a field's value is not allowed, or that the bytes end in
+-- it, with the number of bytes from that field on
+pub data Read (A : Type 0) : Type 0 where
+  Got : (value : A) (rest : List ℕ) → Read A
+  Bad : (left : ℕ) → Read A
+
+abbrev pub Reader : Type 0 → Type 0
+Reader A = List ℕ → Read A
+
+-- goes on with the value and the rest
+infixl 10 ◌>>=◌
+abbrev pub ◌>>=◌ : {A B : Type 0} → Read A → (A → List ℕ → Read B) → Read B
+(Got v rest) >>= f = f v rest
+(Bad left) >>= f = Bad left
+
+-- n bytes with what they tell, if that is allowed
+abbrev pub told : {A : Type 0} → ℕ → List ℕ → Option A → Read A
+told n bytes None = Bad (length bytes)
+told n bytes (Some v) = Got v (drop n bytes)
+
+-- a field of n bytes
+unfoldable pub field : {A : Type 0} → ℕ → (List ℕ → Option A) → Reader A
+field n meant bytes = if nat_lt (length bytes) n then Bad (length bytes) else told n bytes (meant (take n bytes))
+
+-- a field, then one that may depend on it, and what the two make
+abbrev pub with_next : {A B C : Type 0} → (A → B → C) → Reader A → (A → Reader B) → Reader C
+with_next made f g bytes = f bytes >>= λ v rest. g v rest >>= λ w rest'. Got (made v w) rest'
+
+-- both of them
+abbrev pub and_then : {A B : Type 0} → Reader A → (A → Reader B) → Reader (A × B)
+and_then f g = with_next (λ v w. (v, w)) f g
+
+-- a field, and then another one
+infixr 10 ◌⨟◌
+abbrev pub ◌⨟◌ : {A B : Type 0} → Reader A → Reader B → Reader (A × B)
+f ⨟ g = and_then f (λ _. g)
+
+-- as another value
+abbrev pub viewed : {A B : Type 0} → (A → B) → Reader A → Reader B
+viewed view f bytes = f bytes >>= λ v rest. Got (view v) rest
+
+abbrev pub ended : {A : Type 0} → A → List ℕ → Read A
+ended v [] = Got v []
+ended v (b ∷ bs) = Bad (length (b ∷ bs))
+
+-- a value and nothing behind it
+abbrev pub whole : {A : Type 0} → Reader A → Reader A
+whole f bytes = f bytes >>= λ v rest. ended v rest
+
+-- ---- fields
+
+abbrev pub only_if : {A : Type 0} → Bool → A → Option A
+only_if allowed v = if allowed then Some v else None
+
+-- one byte from low to high
+unfoldable pub byte_from : ℕ → ℕ → Reader ℕ
+byte_from low high = field 1 (λ b. only_if (nat_le low (slice_index b 0) && nat_le (slice_index b 0) high) (slice_index b 0))
+
+-- two bytes of a number from low to high
+unfoldable pub two_bytes_from : ℕ → ℕ → Reader ℕ
+two_bytes_from low high = field 2 (λ b. only_if (nat_le low (from_le_bytes w16 b) && nat_le (from_le_bytes w16 b) high) (from_le_bytes w16 b))
+
+-- four bytes of a number from low to high
+unfoldable pub four_bytes_from : ℕ → ℕ → Reader ℕ
+four_bytes_from low high = field 4 (λ b. only_if (nat_le low (from_le_bytes w32 b) && nat_le (from_le_bytes w32 b) high) (from_le_bytes w32 b))
+
+unfoldable pub optional_place : Reader (Option Tid)
+optional_place = field 6 tid_option_in
+
+-- only that there is none
+unfoldable pub none_alone : Option (Option Tid) → Option (Option Tid)
+none_alone None = None
+none_alone (Some None) = Some None
+none_alone (Some (Some at)) = None
+
+unfoldable pub no_place : Reader (Option Tid)
+no_place = field 6 (λ b. none_alone (tid_option_in b))
+
+-- ---- the meta tuple
+
+unfoldable pub kind_in : ℕ → Option Kind
+kind_in byte = if byte == 1 then Some Hnsw else (if byte == 2 then Some Ivf else None)
+
+unfoldable pub kind : Reader Kind
+kind = field 1 (λ b. kind_in (slice_index b 0))
+
+-- lists have the Hamming distance alone
+unfoldable pub ops_in : Kind → ℕ → Option Ops
+ops_in Hnsw byte = if byte == 1 then Some Hamming else (if byte == 2 then Some Jaccard else None)
+ops_in Ivf byte = if byte == 1 then Some Hamming else None
+
+unfoldable pub ops_of : Kind → Reader Ops
+ops_of kind = field 1 (λ b. ops_in kind (slice_index b 0))
+
+unfoldable pub m_of : Kind → Reader ℕ
+m_of Hnsw = two_bytes_from 2 100
+m_of Ivf = two_bytes_from 0 0
+
+-- m being at least 2, twice m is at least 4
+unfoldable pub ef_of : Kind → ℕ → Reader ℕ
+ef_of Hnsw m = two_bytes_from (2 * m) 1000
+ef_of Ivf m = two_bytes_from 0 0
+
+unfoldable pub lists_of : Kind → Reader ℕ
+lists_of Hnsw = four_bytes_from 0 0
+lists_of Ivf = four_bytes_from 1 32768
+
+unfoldable pub params : Reader Params
+params =
+    viewed (λ x. record { kind = x.0; ops = x.1.0; bits = x.1.1.0; m = x.1.1.1.0; ef = x.1.1.1.1.0; lists = x.1.1.1.1.1 })
+    (and_then kind (λ k. ops_of k ⨟ four_bytes_from 1 64000 ⨟ and_then (m_of k) (λ m. ef_of k m ⨟ lists_of k)))
+
+-- the place at which a search begins; lists have none
+unfoldable pub entry_of : Kind → Reader (Option Tid)
+entry_of Hnsw = optional_place
+entry_of Ivf = no_place
+
+-- 0 alone beside no entry
+unfoldable pub level_of : Option Tid → Reader ℕ
+level_of None = byte_from 0 0
+level_of (Some at) = byte_from 0 255
+
+unfoldable pub hint_of : Kind → Reader ℕ
+hint_of Hnsw = four_bytes_from 1 32768
+hint_of Ivf = four_bytes_from 0 0
+
+unfoldable pub meta : Reader Meta
+meta =
+    viewed (λ x. record { format = x.1.0; params = x.1.1.0; entry = x.1.1.1.0; level = x.1.1.1.1.0; hint = x.1.1.1.1.1.1 })
+    (four_bytes_from magic magic ⨟ two_bytes_from 1 2 ⨟ and_then params (λ p. and_then (entry_of p.kind) (λ e. level_of e ⨟ byte_from 0 0 ⨟ hint_of p.kind)))
+
+-- ---- bit values
+
+-- the places of a bit value, no unused bit being set
+unfoldable pub packed_places : ℕ → Reader (List Bool)
+packed_places count = field ((count + 7) / 8) (λ b. only_if (list_all not (drop count (unpacked b))) (take count (unpacked b)))
+
+-- a value of so many places: its length, its count and its places
+unfoldable pub bit_value : ℕ → Reader (List Bool)
+bit_value count =
+    viewed (λ x. x.1.1) (four_bytes_from (length_word count) (length_word count) ⨟ four_bytes_from count count ⨟ packed_places count)
+
+-- ---- the entry tuple and the list tuple
+
+unfoldable pub heap_id : Reader HeapId
+heap_id = field 6 heap_id_in
+
+unfoldable pub entry : Params → Reader EntryRow
+entry p = viewed (λ x. row_with x.0 x.1.1) (heap_id ⨟ two_bytes_from 0 0 ⨟ bit_value p.bits)
+
+unfoldable pub centre : Params → Reader CentreTuple
+centre p =
+    viewed (λ x. centre_with x.0 x.1.0 x.1.1.1)
+    (four_bytes_from 0 4294967295 ⨟ four_bytes_from 0 4294967295 ⨟ four_bytes_from 0 0 ⨟ bit_value p.bits)

@@ -1,0 +1,95 @@
+-- The one spelling of each tuple, field after field. Numbers are little-endian.
+use Rattle.std.specs.Prelude.{◌≡◌, ℕ, ◌+◌, ◌*◌, ◌/◌, ◌≤◌, ◌<◌, ◌^◌, Bool, List, ◌∷◌, ◌++◌, length, Option, Some, None}
+use Rattle.std.specs.Int.{w16, w32, to_le_bytes}
+use Rattle.vec_names.specs.declared.tid.Tid.{Tid}
+use Rattle.vec_names.specs.declared.heap_id.HeapId.{HeapId}
+use Rattle.vec_names.specs.declared.params.Kind.{Kind}
+use Rattle.vec_names.specs.declared.params.Kind.TheVariants.{Hnsw, Ivf}
+use Rattle.vec_names.specs.declared.params.Ops.{Ops}
+use Rattle.vec_names.specs.declared.params.Ops.TheVariants.{Hamming, Jaccard}
+use Rattle.vec_names.specs.declared.params.Params.{Params}
+use Rattle.vec_names.specs.Params.{IsInRange}
+use Rattle.vec_names.specs.Pointer.{tid_option_bytes, heap_id_bytes}
+use Rattle.bit_code.specs.Places.{packed}
+use Rattle.vec_tuples.specs.declared.meta.Meta.{Meta}
+use Rattle.vec_tuples.specs.declared.entry.EntryRow.{EntryRow}
+use Rattle.vec_tuples.specs.declared.centre.CentreTuple.{CentreTuple}
+
+-- ---- the meta tuple
+
+abbrev pub magic : ℕ
+magic = 0x42495456
+
+abbrev pub kind_byte : Kind → ℕ
+kind_byte Hnsw = 1
+kind_byte Ivf = 2
+
+abbrev pub ops_byte : Ops → ℕ
+ops_byte Hamming = 1
+ops_byte Jaccard = 2
+
+abbrev pub params_bytes : Params → List ℕ
+params_bytes p =
+    kind_byte p.kind ∷ ops_byte p.ops ∷ to_le_bytes w32 p.bits ++ (to_le_bytes w16 p.m ++ (to_le_bytes w16 p.ef ++ to_le_bytes w32 p.lists))
+
+-- 32 bytes
+unfoldable pub meta_bytes : Meta → List ℕ
+meta_bytes m =
+    to_le_bytes w32 magic ++ (to_le_bytes w16 m.format ++ (params_bytes m.params ++ (tid_option_bytes m.entry ++ (m.level ∷ 0 ∷ to_le_bytes w32 m.hint))))
+
+-- a level stands above 0 only with an entry
+abbrev pub IsLevelOf : Option Tid → ℕ → Type 0
+IsLevelOf None level = level ≡ 0
+IsLevelOf (Some at) level = level < 2 ^ 8
+
+-- lists have no entry
+abbrev pub IsEntryOf : Kind → Option Tid → Type 0
+IsEntryOf Hnsw entry = Unit {0}
+IsEntryOf Ivf entry = entry ≡ None
+
+-- a graph looks for room from one of its blocks on, lists do not
+abbrev pub IsHintOf : Kind → ℕ → Type 0
+IsHintOf Hnsw hint = (1 ≤ hint) × (hint ≤ 32768)
+IsHintOf Ivf hint = hint ≡ 0
+
+-- which values have a meta tuple
+pub record IsMeta (m : Meta) : Type 0 where
+  pub format_low : 1 ≤ m.format
+  pub format_high : m.format ≤ 2
+  pub params : IsInRange m.params
+  pub entry : IsEntryOf m.params.kind m.entry
+  pub level : IsLevelOf m.entry m.level
+  pub hint : IsHintOf m.params.kind m.hint
+
+-- ---- bit values
+
+-- the length of a value's bytes with this head of eight, shifted left by two
+abbrev pub length_word : ℕ → ℕ
+length_word count = 4 * (8 + (count + 7) / 8)
+
+abbrev pub bits_bytes : List Bool → List ℕ
+bits_bytes bits = to_le_bytes w32 (length_word (length bits)) ++ (to_le_bytes w32 (length bits) ++ packed bits)
+
+-- ---- the entry tuple
+
+abbrev pub row_with : HeapId → List Bool → EntryRow
+row_with id bits = record { id = id; bits = bits }
+
+-- a row of the indexed table with its value
+unfoldable pub entry_bytes : EntryRow → List ℕ
+entry_bytes row = heap_id_bytes row.id ++ (0 ∷ 0 ∷ bits_bytes row.bits)
+
+abbrev pub IsEntry : Params → EntryRow → Type 0
+IsEntry params row = length row.bits ≡ params.bits
+
+-- ---- the list tuple
+
+abbrev pub centre_with : ℕ → ℕ → List Bool → CentreTuple
+centre_with first aim bits = record { first = first; aim = aim; bits = bits }
+
+-- the list's first block, the block at which it looks for room, and its centre
+unfoldable pub centre_bytes : CentreTuple → List ℕ
+centre_bytes c = to_le_bytes w32 c.first ++ (to_le_bytes w32 c.aim ++ (0 ∷ 0 ∷ 0 ∷ 0 ∷ bits_bytes c.bits))
+
+abbrev pub IsCentre : Params → CentreTuple → Type 0
+IsCentre params c = (c.first < 2 ^ 32) × (c.aim < 2 ^ 32) × (length c.bits ≡ params.bits)

@@ -1,0 +1,101 @@
+//! The fields of tuples, each read from the front of the bytes.
+
+ghost use Rattle.std.specs.Prelude.{◌≡◌, ◌≤◌, IfOk};
+ghost use Rattle.vec_tuples.specs.Reading.{byte_from, two_bytes_from, four_bytes_from, optional_place, no_place, heap_id};
+ghost use Rattle.vec_tuples.specs.Answers.{Gives};
+
+use crate::refused::Refused;
+use vec_names::{HeapId, Tid};
+
+/// A byte from `low` to `high`.
+#[tactic(auto, unfolding(crate::specs::Reading::byte_from, crate::specs::Reading::field))]
+pub fn byte_from(low: u8, high: u8, bytes: &[u8]) -> Result<(u8, &[u8]), Refused>
+    ensures reads { Gives (λ x. (x.0, x.1.now)) result (byte_from low high bytes.now) }
+    ensures range { IfOk result (λ x. (low ≤ x.0) × (x.0 ≤ high)) }
+{
+    match bytes.split_first() {
+        None => Err(Refused { left: bytes.len() }),
+        Some((front, rest)) => {
+            if *front >= low && *front <= high {
+                Ok((*front, rest))
+            } else {
+                Err(Refused { left: bytes.len() })
+            }
+        }
+    }
+}
+
+/// A number of two bytes from `low` to `high`.
+#[tactic(auto, unfolding(crate::specs::Reading::two_bytes_from, crate::specs::Reading::field))]
+pub fn two_bytes_from(low: u16, high: u16, bytes: &[u8]) -> Result<(u16, &[u8]), Refused>
+    ensures reads { Gives (λ x. (x.0, x.1.now)) result (two_bytes_from low high bytes.now) }
+    ensures range { IfOk result (λ x. (low ≤ x.0) × (x.0 ≤ high)) }
+{
+    let Some((front, rest)) = bytes.split_first_chunk::<2>() else {
+        return Err(Refused { left: bytes.len() });
+    };
+    let number = u16::from_le_bytes(*front);
+    if number >= low && number <= high {
+        Ok((number, rest))
+    } else {
+        Err(Refused { left: bytes.len() })
+    }
+}
+
+/// A number of four bytes from `low` to `high`.
+#[tactic(auto, unfolding(crate::specs::Reading::four_bytes_from, crate::specs::Reading::field))]
+pub fn four_bytes_from(low: u32, high: u32, bytes: &[u8]) -> Result<(u32, &[u8]), Refused>
+    ensures reads { Gives (λ x. (x.0, x.1.now)) result (four_bytes_from low high bytes.now) }
+    ensures range { IfOk result (λ x. (low ≤ x.0) × (x.0 ≤ high)) }
+{
+    let Some((front, rest)) = bytes.split_first_chunk::<4>() else {
+        return Err(Refused { left: bytes.len() });
+    };
+    let number = u32::from_le_bytes(*front);
+    if number >= low && number <= high {
+        Ok((number, rest))
+    } else {
+        Err(Refused { left: bytes.len() })
+    }
+}
+
+/// The place of an item, or that there is none.
+#[tactic(auto, unfolding(crate::specs::Reading::optional_place, crate::specs::Reading::field))]
+pub fn optional_place(bytes: &[u8]) -> Result<(Option<Tid>, &[u8]), Refused>
+    ensures { Gives (λ x. (x.0, x.1.now)) result (optional_place bytes.now) }
+{
+    let Some((front, rest)) = bytes.split_first_chunk::<6>() else {
+        return Err(Refused { left: bytes.len() });
+    };
+    match Tid::read_option(*front) {
+        Some(place) => Ok((place, rest)),
+        None => Err(Refused { left: bytes.len() }),
+    }
+}
+
+/// That there is no place.
+#[tactic(auto, unfolding(crate::specs::Reading::no_place, crate::specs::Reading::none_alone, crate::specs::Reading::field))]
+pub fn no_place(bytes: &[u8]) -> Result<(Option<Tid>, &[u8]), Refused>
+    ensures { Gives (λ x. (x.0, x.1.now)) result (no_place bytes.now) }
+{
+    let Some((front, rest)) = bytes.split_first_chunk::<6>() else {
+        return Err(Refused { left: bytes.len() });
+    };
+    match Tid::read_option(*front) {
+        Some(None) => Ok((None, rest)),
+        _ => Err(Refused { left: bytes.len() }),
+    }
+}
+
+#[tactic(auto, unfolding(crate::specs::Reading::heap_id, crate::specs::Reading::field))]
+pub fn heap_id(bytes: &[u8]) -> Result<(HeapId, &[u8]), Refused>
+    ensures { Gives (λ x. (x.0, x.1.now)) result (heap_id bytes.now) }
+{
+    let Some((front, rest)) = bytes.split_first_chunk::<6>() else {
+        return Err(Refused { left: bytes.len() });
+    };
+    match HeapId::read(*front) {
+        Some(id) => Ok((id, rest)),
+        None => Err(Refused { left: bytes.len() }),
+    }
+}

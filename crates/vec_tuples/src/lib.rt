@@ -1,0 +1,21 @@
+//! The tuples that stand on an index's pages, as bytes: each value has one spelling, which is read
+//! and written whole, and changed in place.
+#![tactic(auto)]
+
+mod bits;
+mod centre;
+mod entry;
+mod fault;
+mod fields;
+mod meta;
+mod parameters;
+mod pieces;
+mod refused;
+
+pub use centre::{CentreTuple, read_centre, set_aim, write_centre};
+pub use entry::{EntryRow, fill_entry, read_entry, write_entry};
+pub use fault::TupleFault;
+pub use meta::{Meta, fill_meta, read_meta, write_meta};
+
+#[cfg(test)]
+mod tests;
