@@ -1,5 +1,5 @@
 -- What a stable sort gives is `ranked`.
-use Rattle.std.proofs.Common.{◌≡◌, refl, sym, ap, ◌∙◌, subst, ℕ, zero, suc, ◌+◌, ◌≤◌, ◌<◌, List, [], ◌∷◌, length, get_or, arith, filter}
+use Rattle.std.proofs.Common.{◌≡◌, refl, sym, ap, ◌∙◌, subst, ℕ, suc, ◌+◌, ◌<◌, List, [], ◌∷◌, length, get_or, arith, filter}
 use Rattle.std.specs.Prelude.{Bool, true, false, not, ◌&&◌, cond, if◌then◌else◌}
 use Rattle.std.specs.Cmp.{IsStrictWeakOrder}
 use Rattle.std.specs.List.Sorted.{IsSortedBy, IsStableBy, ties}
@@ -27,9 +27,10 @@ sorted_tail {X} lt x xs up k d low high =
 
 rises_from : {X : Type 0} (lt : X → X → Bool) → IsStrictWeakOrder lt → (xs : List X) → IsSortedBy lt xs → Rises lt xs
 rises_from lt o [] up = tt
-rises_from lt o (x ∷ xs) up =
-    (none_less_from lt x xs (λ k within. sorted_far lt o (x ∷ xs) up 0 (suc k) x (omega arith) (omega (arith, within))),
-      rises_from lt o xs (sorted_tail lt x xs up))
+rises_from lt o (x ∷ xs) up = (
+  none_less_from lt x xs (λ k within. sorted_far lt o (x ∷ xs) up 0 (suc k) x (omega arith) (omega (arith, within))),
+  rises_from lt o xs (sorted_tail lt x xs up),
+)
 
 -- ---- lists in order with the same ties are one
 
@@ -145,6 +146,7 @@ ties_placed {X} lt o z x (y ∷ ys) = by_test (lt y x) refl (ties_placed lt o z 
     swapped less true false tx ty = refl
     swapped less false true tx ty = refl
     swapped less false false tx ty = refl
+
     by_test : (b : Bool) → lt y x ≡ b → filter (ties lt z) (placed lt x ys) ≡ filter (ties lt z) (x ∷ ys) → filter (ties lt z) (if b then y ∷ placed lt x ys else x ∷ y ∷ ys) ≡ filter (ties lt z) (x ∷ y ∷ ys)
     by_test true less further =
         ap (λ (l : List X). cond (ties lt z y) (y ∷ l) l) further ∙ swapped less (ties lt z x) (ties lt z y) refl refl

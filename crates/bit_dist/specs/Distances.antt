@@ -1,5 +1,5 @@
 -- Distances of bit values, as exact fractions.
-use Rattle.std.specs.Prelude.{ℕ, ◌*◌, ◌<◌, Bool, List}
+use Rattle.std.specs.Prelude.{◌*◌, ◌<◌, Bool, List}
 use Rattle.std.specs.declared.cmp.Ordering.{Ordering}
 use Rattle.std.specs.Ordering.{nat_cmp}
 use Rattle.std.proofs.Common.{arith}

@@ -42,11 +42,11 @@ begins Done bytes l = ([], refl)
 begins (Byte allowed next) [] l = lives (Byte allowed next) l
 begins (Byte allowed next) (b ∷ bytes) l = elim (either (allowed b)) [
   | inl may ↦
-    let r = begins (next b) bytes (l.1 b may) in
-    (r.0, rw (passes allowed next b bytes may) (may, r.1))
+      let r = begins (next b) bytes (l.1 b may) in
+      (r.0, rw (passes allowed next b bytes may) (may, r.1))
   | inr stop ↦
-    let r = lives (Byte allowed next) l in
-    (r.0, rw (stops allowed next b bytes stop) r.1)
+      let r = lives (Byte allowed next) l in
+      (r.0, rw (stops allowed next b bytes stop) r.1)
 ]
 
 -- and no bytes of the format have it
@@ -57,8 +57,8 @@ nothing_has Done (b ∷ bytes) rest h m = absurd cc
 nothing_has (Byte allowed next) [] rest h m = absurd (omega arith)
 nothing_has (Byte allowed next) (b ∷ bytes) rest h m = elim (either (allowed b)) [
   | inl may ↦
-    let p = passes allowed next b bytes may in
-    nothing_has (next b) bytes rest (omega (arith, p)) (subst (λ (n : ℕ). Matches (next b) (take n bytes ++ rest)) p m.1)
+      let p = passes allowed next b bytes may in
+      nothing_has (next b) bytes rest (omega (arith, p)) (subst (λ (n : ℕ). Matches (next b) (take n bytes ++ rest)) p m.1)
   | inr stop ↦ absurd (false≢true (sym stop ∙ m.0))
 ]
 

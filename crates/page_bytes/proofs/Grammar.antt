@@ -154,12 +154,12 @@ kinds-some low high n = let t = ne_eqb (low + high * 2 ^ 16) 0xFFFFFFFF n in ap 
 kinds_matched : (low high : ℕ) (bytes : List ℕ) → low < 2 ^ 16 → high < 2 ^ 16 → Matches (kinds low high) bytes → Kinded (low + high * 2 ^ 16) bytes
 kinds_matched low high bytes l h m = elim (cases_eq (low + high * 2 ^ 16) 0xFFFFFFFF) [
   | inl e ↦
-    let k = kind_matched 1 bytes (subst (λ (f : Format). Matches f bytes) (kinds-none low high e) m) in
-    record { next = None; kind = kind_from k.0; fits = tt; word_is = sym e; same = k.3 ∙ ap (λ (n : ℕ). to_le_bytes w16 0 ++ to_le_bytes w16 n) (sym (kind_word-from k.0 k.1 k.2)) }
+      let k = kind_matched 1 bytes (subst (λ (f : Format). Matches f bytes) (kinds-none low high e) m) in
+      record { next = None; kind = kind_from k.0; fits = tt; word_is = sym e; same = k.3 ∙ ap (λ (n : ℕ). to_le_bytes w16 0 ++ to_le_bytes w16 n) (sym (kind_word-from k.0 k.1 k.2)) }
   | inr n ↦
-    let k = kind_matched 4 bytes (subst (λ (f : Format). Matches f bytes) (kinds-some low high n) m) in
-    let four : k.0 ≡ 4 = omega (arith, k.1, k.2) in
-    record { next = Some (low + high * 2 ^ 16); kind = IvfEntries; fits = (refl, omega (arith, n)); word_is = refl; same = k.3 ∙ ap (λ (n : ℕ). to_le_bytes w16 0 ++ to_le_bytes w16 n) four }
+      let k = kind_matched 4 bytes (subst (λ (f : Format). Matches f bytes) (kinds-some low high n) m) in
+      let four : k.0 ≡ 4 = omega (arith, k.1, k.2) in
+      record { next = Some (low + high * 2 ^ 16); kind = IvfEntries; fits = (refl, omega (arith, n)); word_is = refl; same = k.3 ∙ ap (λ (n : ℕ). to_le_bytes w16 0 ++ to_le_bytes w16 n) four }
 ]
 
 ending_matched : (bytes : List ℕ) → Matches ending bytes → Ended bytes
@@ -228,11 +228,13 @@ fields_spell bytes lower upper first new items next kind f =
     let t : List ℕ = line_pointers 8184 items ++ (zeros (upper - lower) ++ (stacked items ++ special next kind)) in
     let spelled : spelling p ≡ header number lower upper ++ t = spelling-from p lower upper (upper - lower) lower_is upper_is (omega (arith, r.1)) in
     let pointers_are : pointer_bytes 8184 new ≡ line_pointers 8184 items = ap (pointer_bytes 8184) (sym lens) ∙ pointer_bytes-map 8184 items in
-    let first_is : first ≡ to_le_bytes w64 number = sym (le_bytes_8 first number f.long small refl) in
-    (p, record {
-      page = record { next = f.next_fits; number = number_small first small; items = sized new items lens f.some f.fits; room = omega (arith, f.room, r.1, f.count, f.lower_in.even, f.lower_in.least) };
-      same = f.same ∙ ap (λ (s : List ℕ). first ++ (zeros 4 ++ (to_le_bytes w16 lower ++ (to_le_bytes w16 upper ++ ((0xF8 ∷ 0x1F ∷ 0x04 ∷ 0x20 ∷ 0 ∷ 0 ∷ 0 ∷ 0 ∷ []) ++ (s ++ (zeros (upper - lower) ++ (stacked items ++ special next kind)))))))) pointers_are ∙ ap (λ (s : List ℕ). s ++ (zeros 4 ++ (to_le_bytes w16 lower ++ (to_le_bytes w16 upper ++ ((0xF8 ∷ 0x1F ∷ 0x04 ∷ 0x20 ∷ 0 ∷ 0 ∷ 0 ∷ 0 ∷ []) ++ t))))) first_is ∙ sym (header_fields number lower upper t) ∙ sym spelled;
-    })
+    let first_is : first ≡ to_le_bytes w64 number = sym (le_bytes_8 first number f.long small refl) in (
+      p,
+      record {
+        page = record { next = f.next_fits; number = number_small first small; items = sized new items lens f.some f.fits; room = omega (arith, f.room, r.1, f.count, f.lower_in.even, f.lower_in.least) };
+        same = f.same ∙ ap (λ (s : List ℕ). first ++ (zeros 4 ++ (to_le_bytes w16 lower ++ (to_le_bytes w16 upper ++ ((0xF8 ∷ 0x1F ∷ 0x04 ∷ 0x20 ∷ 0 ∷ 0 ∷ 0 ∷ 0 ∷ []) ++ (s ++ (zeros (upper - lower) ++ (stacked items ++ special next kind)))))))) pointers_are ∙ ap (λ (s : List ℕ). s ++ (zeros 4 ++ (to_le_bytes w16 lower ++ (to_le_bytes w16 upper ++ ((0xF8 ∷ 0x1F ∷ 0x04 ∷ 0x20 ∷ 0 ∷ 0 ∷ 0 ∷ 0 ∷ []) ++ t))))) first_is ∙ sym (header_fields number lower upper t) ∙ sym spelled;
+      },
+    )
 
 -- what follows pd_lower and pd_upper
 record Behind (lower upper : ℕ) (bytes : List ℕ) : Type 0 where

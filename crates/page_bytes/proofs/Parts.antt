@@ -180,8 +180,7 @@ unfolding half Live
 half_live low high step next s order even l =
     let e : high % 256 + (high / 256) * 2 ^ 8 ≡ high = omega arith in
     let h : InHalf low high step high = record { least = order; most = omega arith; even = even } in
-    let g : InHalf low high step (high % 256 + (high / 256) * 2 ^ 8) = subst (InHalf low high step) (sym e) h in
-    (
+    let g : InHalf low high step (high % 256 + (high / 256) * 2 ^ 8) = subst (InHalf low high step) (sym e) h in (
       (high % 256, begins-from low high step (high % 256) (first_of low high step (high % 256) (high / 256) s (omega arith) g)),
       λ a f. let w = some_half low high step a s (begins-true low high step a f) in ((w.0, is_half-from low high step (a + w.0 * 2 ^ 8) w.1), λ b t. l (a + b * 2 ^ 8) (is_half-true low high step (a + b * 2 ^ 8) t)),
     )

@@ -67,8 +67,8 @@ zeros_stop zero next bytes at bad h low high z b = absurd (omega arith)
 zeros_stop (suc n) next bytes at bad h low high z b = elim (cases_lt at bad) [
   | inl more ↦ fixed_more 0 (zeros n) next bytes at (omega arith) (z at (omega arith) more) ∙ zeros_stop n next bytes (at + 1) bad (omega arith) (omega arith) (omega arith) (λ k l m. z k (omega arith) m) b
   | inr here ↦
-    let e : at ≡ bad = omega arith in
-    fixed_bad 0 (zeros n) next bytes at (omega arith) (subst (λ (k : ℕ). get_or bytes k 0 ≡ 0 → ⊥) (sym e) b) ∙ e
+      let e : at ≡ bad = omega arith in
+      fixed_bad 0 (zeros n) next bytes at (omega arith) (subst (λ (k : ℕ). get_or bytes k 0 ≡ 0 → ⊥) (sym e) b) ∙ e
 ]
 
 -- ---- a word of 8 bytes that is 0
@@ -152,8 +152,7 @@ unfolding pointer word_at
 pointer_found least most top low high bytes at a f g =
     let place = low - 2 ^ 15 in
     let len : (half_at bytes at + half_at bytes (at + 2) * 2 ^ 16) / 2 ^ 17 ≡ high / 2 = omega (arith, f.0, g.0, f.1.most, a.below, a.within) in
-    let next_at : at + 2 + 2 ≡ at + 4 = omega arith in
-    (
+    let next_at : at + 2 + 2 ≡ at + 4 = omega arith in (
       subst (InPointer least most top place) (sym len) (in_pointer least most top low high a f.1 g.1),
       λ next. f.2 (λ low. half (2 * (top - (low - 2 ^ 15)) - 14) (2 * (top - (low - 2 ^ 15))) 2 (λ high. next (low - 2 ^ 15) (high / 2))) ∙ g.2 (λ high. next place (high / 2)) ∙ ap (λ (n : ℕ). bad_place (next place n) bytes (at + 2 + 2)) (sym len) ∙ ap (bad_place (next place ((half_at bytes at + half_at bytes (at + 2) * 2 ^ 16) / 2 ^ 17)) bytes) next_at,
     )

@@ -73,9 +73,9 @@ first_fault_is bytes whole n at long n_is same at_is not_whole =
       earlier = subst BeginsPage (take-take at bad whole (omega (arith, at_is)) ∙ front) (fewer (take bad whole) at (begins_page whole));
       here = λ h b. elim (cases_lt bad 8192) [
         | inl low ↦
-          let next : at + 1 ≡ suc bad = omega (arith, at_is) in
-          let front' : take (suc bad) bytes ≡ take (suc bad) whole = sym (same_front bytes whole n (suc bad) same (omega (arith, n_is, at_is))) in
-          no_page whole (omega (arith, long)) (subst BeginsPage (ap (λ (k : ℕ). take k bytes) next ∙ front') b)
+            let next : at + 1 ≡ suc bad = omega (arith, at_is) in
+            let front' : take (suc bad) bytes ≡ take (suc bad) whole = sym (same_front bytes whole n (suc bad) same (omega (arith, n_is, at_is))) in
+            no_page whole (omega (arith, long)) (subst BeginsPage (ap (λ (k : ℕ). take k bytes) next ∙ front') b)
         | inr high ↦ not_longer (take (at + 1) bytes) (omega (arith, length-take-le (at + 1) bytes (omega arith), at_is)) b
       ];
       short = λ e. elim (cases_lt at 8192) [

@@ -25,8 +25,7 @@ fn may_begin(low: u16, high: u16, step: u16, first: u8) -> bool
 {
     let first = u32::from(first);
     let low = u32::from(low);
-    first % u32::from(step) == 0
-        && low + (first + 256 - low % 256) % 256 <= u32::from(high)
+    first % u32::from(step) == 0 && low + (first + 256 - low % 256) % 256 <= u32::from(high)
 }
 
 /// Reads such a half word, or gives the place where it goes wrong.

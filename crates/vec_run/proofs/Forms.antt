@@ -1,20 +1,18 @@
 -- Lines of the form, one after the other.
-use Rattle.std.proofs.Common.{◌≡◌, ◌≢◌, refl, sym, ap, ap₂, ◌∙◌, ◌⊎◌, ⊎_elim, inl, inr, subst, ℕ, zero, suc, ◌+◌, ◌^◌, ◌<◌, ◌≤◌, List, [], ◌∷◌, ◌++◌, length, get_or, take, drop, map, arith, append_assoc, length-append}
-use Rattle.std.specs.Prelude.{Bool, Option, Some, None, IfSome, codes, true, false, if◌then◌else◌}
-use Rattle.std.specs.List.{AllZip, filter_map, onto_first}
-use Rattle.std.proofs.Math.Seq.{take-length}
+use Rattle.std.proofs.Common.{◌≡◌, refl, sym, ap, ap₂, ◌∙◌, ⊎_elim, inl, inr, subst, ℕ, zero, suc, ◌+◌, ◌^◌, ◌<◌, ◌≤◌, List, [], ◌∷◌, ◌++◌, length, get_or, take, drop, map, arith, append_assoc, length-append}
+use Rattle.std.specs.Prelude.{Bool, Option, Some, None, IfSome, true, false, if◌then◌else◌}
+use Rattle.std.specs.List.{AllZip, onto_first}
 use Rattle.std.proofs.lemmas.List.{append-nil, take_at, take-append-le, take-append-drop, get_or-take, length-take}
 use Rattle.std.proofs.lemmas.Bool.{cases_lt}
 use Rattle.std.specs.Io.KnownBytes.{Consumes, IsAtEnd}
 use Rattle.vec_names.specs.declared.heap_id.HeapId.{HeapId}
-use Rattle.bit_code.specs.Texts.{places_of_text}
 use Rattle.vec_run.specs.declared.command.Command.{Command}
 use Rattle.vec_run.specs.declared.command.Command.TheVariants.{Row, Query}
 use Rattle.vec_run.specs.declared.fault.ScriptFault.{ScriptFault}
 use Rattle.vec_run.specs.declared.fault.ScriptFault.TheVariants as script
 use Rattle.vec_run.specs.Lines.{lines_of, closed_part, is_line_feed}
 use Rattle.vec_run.proofs.LineCuts.{closed_short}
-use Rattle.vec_run.specs.Grammar.{IsId, IsBits, IsPair, IsRow, IsQuery, IsSkipped, IsLine, IsForm, IsScript, BreaksAt, BreaksBy, IsFirstOutside, IsScriptFault, IsFormFault, IsTextFault, Reads, FitsAfter, AreEqual, AllAre, lengths_of, commands_of, places_in}
+use Rattle.vec_run.specs.Grammar.{IsBits, IsPair, IsSkipped, IsLine, IsForm, IsScript, BreaksAt, BreaksBy, IsFirstOutside, IsScriptFault, IsFormFault, IsTextFault, Reads, FitsAfter, AreEqual, AllAre, lengths_of, commands_of, places_in}
 use Rattle.vec_run.proofs.Cutting.{one_cut}
 use Rattle.vec_run.proofs.Readings.{id_lacks_space}
 

@@ -1,27 +1,26 @@
 -- What is no line of the form.
-use Rattle.std.proofs.Common.{◌≡◌, ◌≢◌, refl, sym, ap, ap₂, inl, inr, ◌∙◌, ◌⊎◌, ⊎_elim, subst, ℕ, zero, suc, ◌+◌, ◌<◌, ◌≤◌, List, [], ◌∷◌, ◌++◌, length, get_or, take, drop, arith, decimal, add-one}
-use Rattle.std.specs.Prelude.{Bool, true, false, not, cond, nat_eq, nat_lt, ◌&&◌, ◌||◌, ◌==◌, Option, Some, None, MatchOption, codes}
+use Rattle.std.proofs.Common.{◌≡◌, ◌≢◌, refl, sym, ap, ap₂, inl, ◌∙◌, ⊎_elim, subst, ℕ, zero, suc, ◌+◌, ◌<◌, ◌≤◌, List, [], ◌∷◌, ◌++◌, length, get_or, take, drop, arith, decimal}
+use Rattle.std.specs.Prelude.{Bool, true, false, not, cond, nat_eq, nat_lt, ◌||◌, ◌==◌, Option, Some, None, MatchOption, codes}
 use Rattle.std.specs.Borrow.{Bor}
 use Rattle.std.specs.Cmp.Lexicographic.{pointwise}
-use Rattle.std.specs.List.{position, position_or_len}
+use Rattle.std.specs.List.{position_or_len}
 use Rattle.std.specs.Str.{IsAscii, IsUtf8}
-use Rattle.std.proofs.lemmas.Bool.{eq-eqb, eqb-true, cases_lt, lt-ltb}
+use Rattle.std.proofs.lemmas.Bool.{eqb-true, cases_lt, lt-ltb}
 use Rattle.std.proofs.lemmas.List.{take-append-drop, take_at, take_all}
-use Rattle.std.proofs.lemmas.List.Quantifiers.{position-Some}
 use Rattle.std.proofs.lemmas.List.Sums.{fails_before_first}
 use Rattle.std.proofs.lemmas.Str.{IsUtf8-from_ascii}
-use Rattle.bit_code.specs.Texts.{is_bit_character, first_bad, places_of_text, IsBitText, IsFaultOf}
+use Rattle.bit_code.specs.Texts.{is_bit_character, first_bad, IsFaultOf}
 use Rattle.bit_code.specs.declared.fault.BitsFault.{BitsFault}
 use Rattle.bit_code.specs.declared.fault.BitsFault.TheVariants as bits
 use Rattle.vec_names.specs.declared.heap_id.HeapId.{HeapId}
 use Rattle.vec_run.specs.declared.fault.LineFault.{LineFault}
 use Rattle.vec_run.specs.declared.fault.LineFault.TheVariants.{Memory, Outside}
 use Rattle.vec_run.specs.Lines.{Lacks, IsCutAt}
-use Rattle.vec_run.specs.Grammar.{IsId, IsBits, IsPair, IsOutsideOr, IsRow, IsQuery, IsSkipped, IsLine, line_fault_of}
+use Rattle.vec_run.specs.Grammar.{IsId, IsBits, IsPair, IsOutsideOr, IsSkipped, IsLine, line_fault_of}
 use Rattle.vec_run.specs.declared.command.Command.{Command}
 use Rattle.vec_run.specs.declared.command.Command.TheVariants.{Row, Query}
 use Rattle.vec_run.proofs.Cutting.{lacks_append, lacks_cons, decimal_lacks, no_cut, cut_parts}
-use Rattle.vec_run.proofs.Spelling.{same_text, equal_texts, rest_of}
+use Rattle.vec_run.proofs.Spelling.{same_text, equal_texts}
 
 -- ---- the word before the rest
 

@@ -1,6 +1,6 @@
 -- What a run of `exact` does to its source and its sink.
 use Rattle.std.specs.Prelude.{ℕ, ◌≡◌, ◌⊎◌, ◌+◌, ◌^◌, ◌<◌, ◌≤◌, Bool, IsTrue, List, [], ◌∷◌, ◌++◌, length, take, map, codes, Option, IfSome, String, string_bytes}
-use Rattle.std.specs.Io.KnownBytes.{Appends, Consumes, Keeps, IsAtEnd}
+use Rattle.std.specs.Io.KnownBytes.{Appends, Consumes, IsAtEnd}
 use Rattle.std.specs.declared.alloc.Global.{Global}
 use Rattle.vec_run.specs.declared.command.Command.{Command}
 use Rattle.vec_run.specs.Grammar.{IsScript, IsFirstOutside}

@@ -27,11 +27,11 @@ returns-then-bytes-eq-SIZE-clause-only c =
 pub returns-clause-only : goal.returns-clause-only
 returns-clause-only c =
     λ p s.
-      let n = page_has_none c.args.bytes.now c.first_bytes-whole.result p c.first_bytes-whole.ensures.long c.first_bytes-whole.ensures.same s in
-      elim c.else-at-eq8192.either [
-        | inl e ↦ absurd (e.1 n.1)
-        | inr e ↦ absurd (e (c.first_fault-at.ensures ∙ n.0))
-      ]
+    let n = page_has_none c.args.bytes.now c.first_bytes-whole.result p c.first_bytes-whole.ensures.long c.first_bytes-whole.ensures.same s in
+    elim c.else-at-eq8192.either [
+      | inl e ↦ absurd (e.1 n.1)
+      | inr e ↦ absurd (e (c.first_fault-at.ensures ∙ n.0))
+    ]
 
 pub returns-clause-fault : goal.returns-clause-fault
 returns-clause-fault c =

@@ -15,8 +15,7 @@ returns-in_err-top c =
 
 pub loop-i-preserved : goal.loop-i-preserved
 loop-i-preserved c =
-    let found = subst (λ (m : ℕ). FindsPlace (c.args.upper + 8 * (c.args.count - c.loop-i.i - 1)) m c.loop-i.top c.args.bytes.now (24 + 4 * c.loop-i.i) (Ok c.in_ok-top.top)) c.most_place-most.ensures c.in_ok-top.ensures in
-    (
+    let found = subst (λ (m : ℕ). FindsPlace (c.args.upper + 8 * (c.args.count - c.loop-i.i - 1)) m c.loop-i.top c.args.bytes.now (24 + 4 * c.loop-i.i) (Ok c.in_ok-top.top)) c.most_place-most.ensures c.in_ok-top.ensures in (
       read_more c.args.bytes.now c.args.count c.args.upper c.loop-i.i c.loop-i.top c.in_ok-top.top c.loop-i-test.true c.loop-i.invariant.0 found.0,
       λ gap. c.loop-i.invariant.1 gap ∙ pointers_on c.args.count c.loop-i.i gap c.args.upper c.loop-i.top c.in_ok-top.top c.args.bytes.now c.loop-i-test.true found,
     )

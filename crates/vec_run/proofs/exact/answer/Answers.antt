@@ -1,4 +1,4 @@
-use Rattle.std.proofs.Common.{◌≡◌, ◌∙◌, ap, sym, arith}
+use Rattle.std.proofs.Common.{◌∙◌, ap}
 use Rattle.vec_run.specs.Grammar.{places_in}
 use Rattle.vec_run.proofs.Forms.{same_length_above}
 use Rattle.vec_run.proofs.exact.answer.Goals as goal

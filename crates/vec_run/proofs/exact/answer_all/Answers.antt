@@ -1,4 +1,4 @@
-use Rattle.std.proofs.Common.{◌≡◌, ◌+◌, ◌++◌, ◌∙◌, List, ℕ, take, drop, arith}
+use Rattle.std.proofs.Common.{◌+◌, ◌++◌, take, drop, arith}
 use Rattle.std.proofs.lemmas.Result.{on_err_weaker}
 use Rattle.vec_outside.proofs.Exits.{on_err}
 use Rattle.vec_run.specs.Replies.{replies_of, replies_after}

@@ -1,4 +1,3 @@
-use Rattle.std.proofs.Common.{ℕ, ◌≡◌, List, sym, subst, ◌∙◌}
 use Rattle.std.proofs.lemmas.Result.{err_from_is_err_and}
 use Rattle.vec_run.proofs.Readings.{no_row_line, no_query_line, no_line, outside_weaker}
 use Rattle.vec_run.proofs.line.read_line.Goals as goal

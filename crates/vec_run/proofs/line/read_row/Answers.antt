@@ -1,6 +1,5 @@
-use Rattle.std.proofs.Common.{ℕ, ◌≡◌, ◌+◌, List, sym, subst, ◌∙◌, drop}
+use Rattle.std.proofs.Common.{ℕ, ◌+◌, List, sym, subst}
 use Rattle.std.proofs.lemmas.Result.{err_from_is_err_and}
-use Rattle.std.specs.Prelude.{Bool}
 use Rattle.vec_run.specs.Grammar.{IsBits}
 use Rattle.vec_run.proofs.Readings.{no_pair_without_space, pair_parts, pair_from, outside_weaker}
 use Rattle.vec_run.proofs.Spelling.{rest_of}

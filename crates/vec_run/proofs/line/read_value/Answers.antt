@@ -1,7 +1,7 @@
-use Rattle.std.proofs.Common.{ℕ, ◌≡◌, List, sym, subst, ap, ◌∙◌}
+use Rattle.std.proofs.Common.{ℕ, List, subst, ap, ◌∙◌}
 use Rattle.std.proofs.lemmas.Result.{err_from_is_err_and}
 use Rattle.std.specs.Prelude.{Bool}
-use Rattle.bit_code.specs.Texts.{IsFaultOf, IsBitText, places_of_text}
+use Rattle.bit_code.specs.Texts.{IsBitText, places_of_text}
 use Rattle.vec_run.specs.Grammar.{IsBits, IsOutsideOr, line_fault_of}
 use Rattle.vec_run.proofs.Readings.{bits_utf8, bad_text}
 use Rattle.vec_run.proofs.line.read_value.Goals as goal

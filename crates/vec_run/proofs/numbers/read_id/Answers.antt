@@ -1,4 +1,4 @@
-use Rattle.std.proofs.Common.{arith, rules, ℕ, ◌≡◌, ◌<◌, ◌+◌, sym, ◌∙◌, subst, List}
+use Rattle.std.proofs.Common.{arith, ◌+◌, sym, ◌∙◌}
 use Rattle.vec_run.proofs.Spelling.{no_id_without_slash, id_parts, id_block, id_off, id_from, rest_of}
 use Rattle.vec_run.proofs.numbers.read_id.Goals as goal
 

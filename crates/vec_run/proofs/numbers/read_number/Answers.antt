@@ -1,4 +1,4 @@
-use Rattle.std.proofs.Common.{arith, ℕ, ◌≡◌, sym, ap, ◌∙◌, subst, List, decimal}
+use Rattle.std.proofs.Common.{◌≡◌, sym, ap, ◌∙◌, subst, decimal}
 use Rattle.std.specs.Prelude.{true, false}
 use Rattle.std.specs.Str.{IsUtf8}
 use Rattle.std.proofs.lemmas.Fmt.{IsAscii-decimal, parse-decimal}

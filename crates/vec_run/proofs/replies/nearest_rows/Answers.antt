@@ -1,4 +1,3 @@
-use Rattle.std.proofs.Common.{◌≡◌, ◌∙◌, ap, take, arith, rules}
 use Rattle.vec_run.proofs.AnswerSteps.{nearest_is, hits_more, hits_whole}
 use Rattle.vec_run.proofs.replies.nearest_rows.Goals as goal
 

@@ -1,5 +1,4 @@
-use Rattle.std.proofs.Common.{sym, subst, Option, Some, None, ◌∙◌}
-use Rattle.memchr.specs.Find.{IsLastByte, is_byte}
+use Rattle.std.proofs.Common.{sym}
 use Rattle.vec_run.proofs.LineCuts.{closed_found, closed_missing}
 use Rattle.vec_run.proofs.script.closed_front.Goals as goal
 

@@ -1,4 +1,4 @@
-use Rattle.std.proofs.Common.{◌≡◌, ◌+◌, ◌-◌, [], List, ℕ, ap, sym, ◌∙◌, length, take, drop}
+use Rattle.std.proofs.Common.{◌+◌, ◌-◌, List, ℕ, ◌∙◌, length, take, drop}
 use Rattle.vec_run.proofs.LineCuts.{first_cut, first_last, drop_whole}
 use Rattle.vec_run.proofs.Spelling.{rest_of}
 use Rattle.vec_run.proofs.script.first_line.Goals as goal

@@ -1,6 +1,5 @@
-use Rattle.std.proofs.Common.{◌≡◌, ◌+◌, ◌++◌, ◌∷◌, [], arith, rules, refl}
+use Rattle.std.proofs.Common.{◌++◌, ◌∷◌, [], arith, rules, refl}
 use Rattle.std.proofs.lemmas.Result.{err_from_is_err_and}
-use Rattle.vec_run.specs.Lines.{lines_of}
 use Rattle.vec_run.specs.Grammar.{Reads}
 use Rattle.vec_run.proofs.Forms.{counted_more, reads_none, goes_on, regrouped, breaks, ends}
 use Rattle.vec_run.proofs.script.read_form.Goals as goal

@@ -1,9 +1,8 @@
-use Rattle.std.proofs.Common.{◌≡◌, ◌≤◌, ◌^◌, ap, sym, ◌∙◌, List, ℕ, length, take, arith, rules, refl}
+use Rattle.std.proofs.Common.{◌≡◌, ap, sym, List, ℕ, length, take, arith}
 use Rattle.std.proofs.lemmas.List.{length-take-le}
-use Rattle.std.proofs.lemmas.Result.{err_from_is_err_and}
 use Rattle.vec_run.specs.Lines.{closed_part}
 use Rattle.vec_run.proofs.LineCuts.{closed_short}
-use Rattle.vec_run.proofs.Forms.{script_from, short_fault, long_fault, past_fault}
+use Rattle.vec_run.proofs.Forms.{past_fault}
 use Rattle.vec_run.proofs.script.read_script.Goals as goal
 
 pub slice_bounds-closed_front-end : goal.slice_bounds-closed_front-end

@@ -1,5 +1,4 @@
-use Rattle.std.proofs.Common.{◌++◌, arith, length-append}
-use Rattle.vec_run.proofs.Moving.{consumes_more, takes_more}
+use Rattle.vec_run.proofs.Moving.{takes_more}
 use Rattle.vec_run.proofs.streams.read_whole.Goals as goal
 
 pub returns-in_err-more-clause-taken : goal.returns-in_err-more-clause-taken

@@ -1,4 +1,4 @@
-use Rattle.std.proofs.Common.{arith, ap, subst, take, List, ℕ, length-drop}
+use Rattle.std.proofs.Common.{arith, subst, take, List, ℕ, length-drop}
 use Rattle.std.proofs.lemmas.List.{take_rest}
 use Rattle.std.specs.Io.KnownBytes.{Appends}
 use Rattle.vec_run.proofs.Moving.{piece_next}
