@@ -1,0 +1,13 @@
+//! The state of an HNSW index, what each event makes of it, and which acts a history of it allows.
+//!
+//! The definitions stand in specs/: `Graph` (nodes, live and doomed ones, members of layers), `Places`
+//! (where a new node may stand), `Effect` (what an event changes), `Holding` (gates, and what a desk
+//! knows), `Phases` (how far a vacuum is), `Rules` (one word for each kind of event), `Legal` and
+//! `Sound`. The functions here are laws of those definitions, and do no work.
+#![tactic(auto)]
+
+mod graph;
+mod node;
+
+pub use graph::Graph;
+pub use node::Node;
