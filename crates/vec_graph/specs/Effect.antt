@@ -1,5 +1,5 @@
 -- What each event changes.
-use Rattle.std.specs.Prelude.{◌≡◌, ℕ, ◌+◌, ◌/◌, ◌%◌, ◌==◌, ◌||◌, if◌then◌else◌, max, Bool, true, false, List, [], ◌∷◌, ◌++◌, take, length, replicate, slice_set, Option, Some, None}
+use Rattle.std.specs.Prelude.{◌≡◌, ℕ, ◌+◌, ◌/◌, ◌%◌, ◌==◌, ◌||◌, if◌then◌else◌, max, ⊤, Bool, true, false, List, [], ◌∷◌, ◌++◌, take, length, replicate, slice_set, Option, Some, None}
 use Rattle.std.specs.FinMap.{insert}
 use Rattle.vec_names.specs.declared.tid.Tid.{Tid}
 use Rattle.vec_names.specs.declared.heap_id.HeapId.{HeapId}
@@ -88,6 +88,13 @@ effect wrap VacuumEnd g = g
 effect wrap (Cancel stage) g = g
 effect wrap (Settled upto) g = g
 effect wrap (DiskFaulted count) g = g
+
+-- the events that change which rows a live node has
+abbrev pub AreIdsChanged : Event → Type 0
+AreIdsChanged (Put at list_at version level id bits lists) = ⊤
+AreIdsChanged (Join at version id) = ⊤
+AreIdsChanged (Drop at version gone) = ⊤
+AreIdsChanged _ = ⊥
 
 -- ---- of a history
 

@@ -144,7 +144,7 @@ pub record IsEntryAtAllowed (base : Graph) (acts : List Act) (desk : ℕ) (to : 
 pub record IsNoEntryAllowed (base : Graph) (acts : List Act) (desk level : ℕ) : Type 0 where
   pub alone : HoldsAs acts desk Update Alone
   pub level_0 : level ≡ 0
-  pub none_live : (at : Tid) (layer : ℕ) → IsLiveAt (after base acts) at layer → ⊥
+  pub none_live : (at : Tid) → IsLiveAt (after base acts) at 0 → ⊥
 
 abbrev pub IsEntryAllowed : Graph → List Act → ℕ → Option Tid → ℕ → Type 0
 IsEntryAllowed base acts desk (Some to) level = IsEntryAtAllowed base acts desk to level

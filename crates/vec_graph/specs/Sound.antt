@@ -8,7 +8,7 @@ use Rattle.vec_graph.specs.Graph.{node_at, IsLiveAt, IsUndeletedAt, HasMember}
 -- a place that is reached from the entry point or from a live node by following slots
 pub data IsReached (g : Graph) : Tid → Type 0 where
   from_entry : (at : Tid) → g.entry ≡ Some at → IsReached g at
-  from_live : (at : Tid) (layer : ℕ) → IsLiveAt g at layer → IsReached g at
+  from_live : (at : Tid) → IsLiveAt g at 0 → IsReached g at
   by_slot : (at : Tid) (layer : ℕ) (to : Tid) → IsReached g at → HasMember g at layer to → IsReached g to
 
 -- the place holds a node that reaches up to the layer

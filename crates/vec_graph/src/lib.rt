@@ -7,7 +7,9 @@
 #![tactic(auto)]
 
 mod graph;
+mod law;
 mod node;
 
 pub use graph::Graph;
+pub use law::{law_alone, law_cut, law_entries, law_live};
 pub use node::Node;
