@@ -1,12 +1,12 @@
 -- Where a new node may stand: computed from the lengths of what stands on the pages, and from nothing else.
-use Rattle.std.specs.Prelude.{◌≡◌, ℕ, ◌+◌, ◌*◌, ◌-◌, ◌/◌, ◌==◌, ◌&&◌, nat_le, nat_lt, if◌then◌else◌, Bool, List, map, find, sum_by, Option, Some, None}
+use Rattle.std.specs.Prelude.{◌≡◌, ℕ, ◌+◌, ◌*◌, ◌-◌, ◌/◌, ◌<◌, ◌==◌, ◌&&◌, nat_le, nat_lt, if◌then◌else◌, max, Bool, true, List, [], ◌∷◌, find, sum_by, Option, Some, None}
 use Rattle.std.specs.Option.{option_map}
 use Rattle.std.specs.FinMap as fin
 use Rattle.vec_names.specs.declared.tid.Tid.{Tid}
 use Rattle.vec_names.specs.Places.{tid_of}
 use Rattle.vec_graph.specs.declared.node.Node.{Node}
 use Rattle.vec_graph.specs.declared.graph.Graph.{Graph}
-use Rattle.vec_graph.specs.Graph.{slots_of_level}
+use Rattle.vec_graph.specs.Graph.{node_at, slots_of_level}
 
 -- ---- bytes
 
@@ -30,21 +30,29 @@ list_need g level = need (4 + 6 * slots_of_level g.params.m level)
 abbrev pub one_if : Bool → ℕ → ℕ
 one_if b n = if b then n else 0
 
--- what a node takes of a block: its element may stand there, and its list
+-- what a node takes of a block, on which its element may stand, and its list
 abbrev pub taken_on : Graph → ℕ → (Tid × Node) → ℕ
 taken_on g b e = one_if (e.0.block == b) (element_need g) + one_if (e.1.list_at.block == b) (list_need g e.1.level)
-
--- how many items a node has on a block
-abbrev pub items_on : ℕ → (Tid × Node) → ℕ
-items_on b e = one_if (e.0.block == b) 1 + one_if (e.1.list_at.block == b) 1
 
 -- what is left of a block
 abbrev pub room : Graph → ℕ → ℕ
 room g b = page_room - sum_by (taken_on g b) (fin.entries g.nodes)
 
--- the next offset of a block, which is one more than the number of its items
+-- the last offset of a block at which a node has an item; 0 where it has none there
+abbrev pub last_off : ℕ → (Tid × Node) → ℕ
+last_off b e = max (one_if (e.0.block == b) e.0.off) (one_if (e.1.list_at.block == b) e.1.list_at.off)
+
+abbrev pub greatest_off : ℕ → List (Tid × Node) → ℕ
+greatest_off b [] = 0
+greatest_off b (e ∷ es) = max (last_off b e) (greatest_off b es)
+
+-- the next offset of a block, behind all its items
 abbrev pub next_off : Graph → ℕ → ℕ
-next_off g b = sum_by (items_on b) (fin.entries g.nodes) + 1
+next_off g b = greatest_off b (fin.entries g.nodes) + 1
+
+-- each node stands on blocks that are there
+abbrev pub IsOnBlocks : Graph → Type 0
+IsOnBlocks g = (at : Tid) (n : Node) → node_at g at ≡ Some n → (at.block < g.blocks) × (n.list_at.block < g.blocks)
 
 -- ---- places
 
@@ -108,3 +116,7 @@ new_blocks g level = if fits_one_page g level then 1 else 2
 -- the place for it on new blocks
 abbrev pub new_place : Graph → ℕ → Option Spot
 new_place g level = if fits_one_page g level then fresh_at g.blocks 1 g.blocks 2 else fresh_at g.blocks 1 (g.blocks + 1) 1
+
+-- no node stands at the place, or a deleted one of this level
+abbrev pub IsFree : Graph → Tid → ℕ → Type 0
+IsFree g at level = (n : Node) → node_at g at ≡ Some n → (n.deleted ≡ true) × (n.level ≡ level)

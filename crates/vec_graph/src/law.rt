@@ -1,6 +1,7 @@
 //! What the definitions of the graph and of its histories mean: laws, and no work.
 
-ghost use Rattle.std.specs.Prelude.{◌≡◌, ◌≢◌, ◌⊎◌, ℕ, ◌++◌, ◌∷◌, [], true, false, take, slice_get, Some};
+ghost use Rattle.std.specs.Prelude.{◌≡◌, ◌≢◌, ◌⊎◌, ℕ, ◌++◌, ◌∷◌, [], true, false, take, slice_get, Some, List, Bool, Option};
+ghost use Rattle.vec_names.specs.declared.tid.Tid.{Tid as Tids};
 ghost use Rattle.vec_event.specs.declared.event.Act.{Act};
 ghost use Rattle.vec_event.specs.declared.gate.Gate.{Gate as Gates};
 ghost use Rattle.vec_event.specs.declared.gate.Hold.{Hold as Holding};
@@ -9,6 +10,8 @@ ghost use Rattle.vec_graph.specs.declared.node.Node.{Node};
 ghost use Rattle.vec_graph.specs.Graph.{IsLive, IsDoomed, entries};
 ghost use Rattle.vec_graph.specs.Effect.{effect, after, AreIdsChanged};
 ghost use Rattle.vec_graph.specs.Holding.{HoldsAs};
+ghost use Rattle.vec_graph.specs.Places.{IsOnBlocks, IsFree};
+ghost use Rattle.vec_graph.specs.Rules.{IsPutAllowed};
 ghost use Rattle.vec_graph.specs.Legal.{IsAllowed, IsLegal};
 
 use crate::graph::Graph;
@@ -45,5 +48,16 @@ pub fn law_entries(base: &Graph, acts: &[Act])
     ensures {
         (a : Act) → IsAllowed base.now acts.now a
             → AreIdsChanged a.event ⊎ (entries (effect 255 a.event (after base.now acts.now)) ≡ entries (after base.now acts.now))
+    }
+{}
+
+/// A law, and no work. Where the nodes of the base stand on its blocks, they do so after any acts; and a
+/// node is put only where none stands or a deleted one of its level, so it takes no other node's place.
+pub fn law_places(base: &Graph, acts: &[Act])
+    requires { IsOnBlocks base.now }
+    ensures on_blocks { IsOnBlocks (after base.now acts.now) }
+    ensures free {
+        (desk version level : ℕ) (at list_at : Tids) (bits : List Bool) (lists : List (Option Tids))
+            → IsPutAllowed base.now acts.now desk at list_at version level bits lists → IsFree (after base.now acts.now) at level
     }
 {}
