@@ -1,3 +1,4 @@
 pub mod Prefixes
 pub mod Entries
 pub mod Placing
+pub mod Levels

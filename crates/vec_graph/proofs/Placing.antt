@@ -154,7 +154,7 @@ free_place g at level s on (inr is) = new_free g level s on is.0
 
 -- ---- what stands on blocks stays there
 
-after_insert : (g : Graph) (at : Tid) (n : Node) (q : Tid) (p : Node) → fin.get (fin.insert g.nodes at n) q ≡ Some p
+pub after_insert : (g : Graph) (at : Tid) (n : Node) (q : Tid) (p : Node) → fin.get (fin.insert g.nodes at n) q ≡ Some p
     → ((q ≡ at) × (p ≡ n)) ⊎ (node_at g q ≡ Some p)
 after_insert g at n q p is =
     elim (tid_cmp q at) as (λ r. tid_cmp q at ≡ r → cond (is_eq r) (Some n) (node_at g q) ≡ Some p → ((q ≡ at) × (p ≡ n)) ⊎ (node_at g q ≡ Some p)) [
@@ -180,7 +180,7 @@ on_changed g at change keeps on =
           on_insert g at (change n) g.blocks on (omega arith) was.0 (subst (λ (t : Tid). t.block < g.blocks) (sym (keeps n)) was.1)
     ] refl
 
-on_effect : (e : Event) (g : Graph) → IsOnBlocks g → IsOnBlocks (effect 255 e g)
+pub on_effect : (e : Event) (g : Graph) → IsOnBlocks g → IsOnBlocks (effect 255 e g)
 on_effect (Put at list_at version level id bits lists) g on = on_insert g at _ _ on (omega arith) (omega arith) (omega arith)
 on_effect (Join at version id) g on = on_changed g at (joined id) (λ n. refl) on
 on_effect (Link at list_at version slot to) g on = on_changed g at (linked slot to) (λ n. refl) on

@@ -39,6 +39,12 @@ pub record IsUndeletedAt (g : Graph) (at : Tid) : Type 0 where
   pub stands : node_at g at ≡ Some node
   pub not_deleted : node.deleted ≡ false
 
+-- a node of this level stands at the place
+pub record HasLevel (g : Graph) (at : Tid) (level : ℕ) : Type 0 where
+  pub node : Node
+  pub stands : node_at g at ≡ Some node
+  pub of_level : node.level ≡ level
+
 -- ---- layers
 
 -- how many slots a node of this level has: m in each layer above the lowest, and 2m in that

@@ -6,12 +6,14 @@ ghost use Rattle.vec_event.specs.declared.event.Act.{Act};
 ghost use Rattle.vec_event.specs.declared.gate.Gate.{Gate as Gates};
 ghost use Rattle.vec_event.specs.declared.gate.Hold.{Hold as Holding};
 ghost use Rattle.vec_event.specs.declared.gate.Hold.TheVariants.{Alone};
+ghost use Rattle.vec_names.specs.declared.heap_id.HeapId.{HeapId as HeapIds};
+ghost use Rattle.vec_graph.specs.declared.graph.Graph.{Graph as Graphs};
 ghost use Rattle.vec_graph.specs.declared.node.Node.{Node};
-ghost use Rattle.vec_graph.specs.Graph.{IsLive, IsDoomed, entries};
-ghost use Rattle.vec_graph.specs.Effect.{effect, after, AreIdsChanged};
+ghost use Rattle.vec_graph.specs.Graph.{IsLive, IsDoomed, HasLevel, slot_layer, entries};
+ghost use Rattle.vec_graph.specs.Effect.{effect, after, state_after, kept, next_version, AreIdsChanged};
 ghost use Rattle.vec_graph.specs.Holding.{HoldsAs};
-ghost use Rattle.vec_graph.specs.Places.{IsOnBlocks, IsFree};
-ghost use Rattle.vec_graph.specs.Rules.{IsPutAllowed};
+ghost use Rattle.vec_graph.specs.Places.{element_need, list_need, fits_one_page, IsOnBlocks, IsFree};
+ghost use Rattle.vec_graph.specs.Rules.{IsPutAllowed, most_level};
 ghost use Rattle.vec_graph.specs.Legal.{IsAllowed, IsLegal};
 
 use crate::graph::Graph;
@@ -60,4 +62,30 @@ pub fn law_places(base: &Graph, acts: &[Act])
         (desk version level : ℕ) (at list_at : Tids) (bits : List Bool) (lists : List (Option Tids))
             → IsPutAllowed base.now acts.now desk at list_at version level bits lists → IsFree (after base.now acts.now) at level
     }
+{}
+
+/// A law, and no work. Where the nodes of the base stand on its blocks, a place at which a node stands at
+/// any position of a legal history has one from then on, and of the same level.
+pub fn law_levels(base: &Graph, acts: &[Act])
+    requires legal { IsLegal base.now acts.now }
+    requires on_blocks { IsOnBlocks base.now }
+    ensures { (n level : ℕ) (at : Tids) → HasLevel (state_after base.now acts.now n) at level → HasLevel (after base.now acts.now) at level }
+{}
+
+/// A law, and no work. Worked examples of the definitions.
+pub fn law_examples()
+    // The element of 4 bits has 81 bytes and the list of a node of level 0, where m is 2, has 28, each
+    // rounded up to eights and with an item pointer of 4; they fit one page.
+    ensures small { (g : Graphs) → g.params.bits ≡ 4 → g.params.m ≡ 2 → (element_need g ≡ 92) × (list_need g 0 ≡ 36) × (fits_one_page g 0 ≡ true) }
+
+    // The longest values and lists do not fit one page together.
+    ensures large { (g : Graphs) → g.params.bits ≡ 64000 → g.params.m ≡ 100 → (element_need g ≡ 8084) × (list_need g 0 ≡ 1212) × (fits_one_page g 0 ≡ false) }
+
+    // Of the six slots of a node of level 1, where m is 2, the first two are layer 1's.
+    ensures layers { (slot_layer 2 1 0 ≡ 1) × (slot_layer 2 1 1 ≡ 1) × (slot_layer 2 1 2 ≡ 0) × (slot_layer 2 1 5 ≡ 0) }
+    ensures levels { (most_level 2 ≡ 255) × (most_level 16 ≡ 82) × (most_level 100 ≡ 11) }
+
+    // The mask 5 names the first id and the third.
+    ensures kept_ids { (a b c : HeapIds) → kept 5 (a ∷ b ∷ c ∷ []) ≡ b ∷ [] }
+    ensures versions { (next_version 255 15 ≡ 16) × (next_version 255 255 ≡ 1) × (next_version 15 15 ≡ 1) }
 {}
