@@ -1,5 +1,5 @@
 -- What leaves the entries of a graph as they are.
-use Rattle.std.proofs.Common.{◌≡◌, ◌⊎◌, inl, inr, ℕ, Bool, true, false, cond, ◌&&◌, T, List, [], ◌∷◌, ◌++◌, map, flat_map, Option, Some, None, refl, sym, ap, subst, ◌∙◌}
+use Rattle.std.proofs.Common.{◌≡◌, ◌⊎◌, inl, inr, ℕ, Bool, true, false, cond, ◌&&◌, T, List, [], ◌∷◌, ◌++◌, map, flat_map, Some, None, refl, sym, ap, ◌∙◌}
 use Rattle.std.specs.declared.cmp.Ordering.{Ordering}
 use Rattle.std.specs.declared.cmp.Ordering.TheVariants.{Less, Equal, Greater}
 use Rattle.std.specs.Ordering.{is_lt, is_eq}
@@ -47,7 +47,7 @@ module _ {K X A : Type 0} (R : K → K → Ordering) (total : IsTotalOrder R) (f
   same_rows k v w [] h is same = absurd (none-some w is)
   same_rows k v w (e ∷ es) h is same =
       elim (R k e.0) as (λ r. R k e.0 ≡ r → cond (is_eq r) (Some e.1) (find R k es) ≡ Some w
-          → rows (by_order r ((k, v) ∷ e ∷ es) ((e.0, v) ∷ es) (e ∷ put R k v es)) ≡ rows (e ∷ es)) [
+      → rows (by_order r ((k, v) ∷ e ∷ es) ((e.0, v) ∷ es) (e ∷ put R k v es)) ≡ rows (e ∷ es)) [
         | Less ↦ λ less found. absurd (none-some w (sym (not_found k e.0 es less (left _ _ h)) ∙ found))
         | Equal ↦ λ equal found. ap (λ l. l ++ rows es) (same ∙ sym (ap f (same_Some e.1 w found)))
         | Greater ↦ λ greater found. ap (λ l. f e.1 ++ l) (same_rows k v w es (right _ _ h) found same)
@@ -58,7 +58,7 @@ module _ {K X A : Type 0} (R : K → K → Ordering) (total : IsTotalOrder R) (f
 same_at : (g : Graph) (at : Tid) (n m : Node) → node_at g at ≡ Some m → rows_of n ≡ rows_of m → entries (with_node g at n) ≡ entries g
 same_at g at n m stands same =
     ap (rows tid_cmp tid_cmp_total rows_of) (fin.entries-insert tid_cmp_total g.nodes at n)
-        ∙ same_rows tid_cmp tid_cmp_total rows_of at n m (fin.entries g.nodes) (fin.entries_sorted g.nodes) (sym (fin.get-entries g.nodes at) ∙ stands) same
+    ∙ same_rows tid_cmp tid_cmp_total rows_of at n m (fin.entries g.nodes) (fin.entries_sorted g.nodes) (sym (fin.get-entries g.nodes at) ∙ stands) same
 
 same_changed : (g : Graph) (at : Tid) (change : Node → Node) → ((n : Node) → node_at g at ≡ Some n → rows_of (change n) ≡ rows_of n)
     → entries (changed g at change) ≡ entries g

@@ -1,10 +1,9 @@
 -- Nodes stay at their places, with their levels.
-use Rattle.std.proofs.Common.{◌≡◌, ◌⊎◌, inl, inr, ℕ, zero, suc, Bool, true, false, cond, List, [], ◌∷◌, ◌++◌, take, drop, Option, Some, None, refl, sym, ap, subst, ◌∙◌, append_assoc, append-nil, take-append-drop}
-use Rattle.std.specs.declared.cmp.Ordering.{Ordering}
+use Rattle.std.proofs.Common.{◌≡◌, ℕ, zero, suc, cond, List, [], ◌∷◌, ◌++◌, take, drop, Some, None, refl, sym, ap, subst, ◌∙◌, append_assoc, append-nil, take-append-drop}
 use Rattle.std.specs.declared.cmp.Ordering.TheVariants.{Less, Equal, Greater}
 use Rattle.std.specs.Ordering.{is_eq}
 use Rattle.std.specs.FinMap as fin
-use Rattle.std.proofs.lemmas.Option.{same_Some, none-some}
+use Rattle.std.proofs.lemmas.Option.{same_Some}
 use Rattle.vec_names.specs.declared.tid.Tid.{Tid}
 use Rattle.vec_names.specs.Order.{tid_cmp, tid_cmp_total, tid_cmp_exact}
 use Rattle.vec_event.specs.declared.event.Event.{Event}
@@ -27,7 +26,7 @@ stays_at : (nodes : fin.FinMap tid_cmp Node) (at : Tid) (n : Node) → ((m : Nod
 stays_at nodes at n same q m stands =
     let inserted = fin.get-insert tid_cmp_total nodes at n q in
     elim (tid_cmp q at) as (λ r. tid_cmp q at ≡ r → fin.get (fin.insert nodes at n) q ≡ cond (is_eq r) (Some n) (fin.get nodes q)
-        → (p : Node) × (fin.get (fin.insert nodes at n) q ≡ Some p) × (p.level ≡ m.level)) [
+    → (p : Node) × (fin.get (fin.insert nodes at n) q ≡ Some p) × (p.level ≡ m.level)) [
       | Less ↦ λ _ is. (m, is ∙ stands, refl)
       | Equal ↦ λ equal is. (n, is, same m (subst (λ (t : Tid). fin.get nodes t ≡ Some m) (tid_cmp_exact q at equal) stands))
       | Greater ↦ λ _ is. (m, is ∙ stands, refl)
@@ -97,4 +96,4 @@ pub level_stays : (base : Graph) (acts : List Act) (n : ℕ) (q : Tid) (level : 
     → HasLevel (state_after base acts n) q level → HasLevel (after base acts) q level
 level_stays base acts n q level legal on has =
     subst (λ h. HasLevel (after base h) q level) (take-append-drop n acts)
-        (along base (take n acts) (drop n acts) (rest_after base [] acts n legal) (on_along base (take n acts) on) q level has)
+    (along base (take n acts) (drop n acts) (rest_after base [] acts n legal) (on_along base (take n acts) on) q level has)

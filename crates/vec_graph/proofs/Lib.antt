@@ -2,3 +2,5 @@ pub mod Prefixes
 pub mod Entries
 pub mod Placing
 pub mod Levels
+pub mod Layers
+pub mod OneAtATime

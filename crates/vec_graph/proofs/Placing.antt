@@ -1,6 +1,5 @@
 -- Where nodes stand, and where a new one may.
 use Rattle.std.proofs.Common.{◌≡◌, ◌⊎◌, inl, inr, ℕ, ◌+◌, ◌<◌, ◌≤◌, max, Bool, true, false, cond, ◌&&◌, T, ◌==◌, List, [], ◌∷◌, find, Option, Some, None, refl, sym, ap, subst, ◌∙◌, arith, true≢false}
-use Rattle.std.specs.Bool.{passes}
 use Rattle.std.proofs.lemmas.Bool.{eq-eqb, eqb-true}
 use Rattle.std.specs.declared.cmp.Ordering.{Ordering}
 use Rattle.std.specs.declared.cmp.Ordering.TheVariants.{Less, Equal, Greater}
@@ -19,8 +18,8 @@ use Rattle.vec_event.specs.declared.event.Act.{Act}
 use Rattle.vec_graph.specs.declared.node.Node.{Node}
 use Rattle.vec_graph.specs.declared.graph.Graph.{Graph}
 use Rattle.vec_graph.specs.Graph.{node_at}
-use Rattle.vec_graph.specs.Places.{Spot, one_if, last_off, greatest_off, next_off, fresh_spot, fresh_at, is_reusable, reused, or_else, together_on, apart_on, fresh_on, fits_one_page, place_on, new_place, IsOnBlocks, IsFree}
-use Rattle.vec_graph.specs.Effect.{effect, after, changed, changed_from, with_node, joined, linked, relisted, dropped, marked}
+use Rattle.vec_graph.specs.Places.{Spot, one_if, last_off, greatest_off, next_off, fresh_spot, fresh_at, is_reusable, reused, or_else, together_on, apart_on, fresh_on, fits_one_page, new_place, IsOnBlocks, IsFree}
+use Rattle.vec_graph.specs.Effect.{effect, after, changed, changed_from, joined, linked, relisted, dropped, marked}
 use Rattle.vec_graph.specs.Rules.{IsPlaced}
 
 -- ---- tests
@@ -71,7 +70,7 @@ module _ {K X : Type 0} (R : K → K → Ordering) (total : IsTotalOrder R) wher
         | false ↦ λ found.
             let less = behind f.0 fs test e (first _ _ h) found in
             ap (λ r. cond (is_eq r) (Some f.1) (fin.find R e.0 fs)) (total.antisymm e.0 f.0 ∙ ap ordering_reverse less)
-                ∙ stands_there fs test e (second _ _ h) found
+            ∙ stands_there fs test e (second _ _ h) found
       ] is
 
   -- and passes the test
@@ -141,10 +140,10 @@ on_block_free g b level s (Some e) found is =
 new_free : (g : Graph) (level : ℕ) (s : Spot) → IsOnBlocks g → new_place g level ≡ Some s → IsFree g s.at level
 new_free g level s on e = λ n stands.
     let here : s.at.block ≡ g.blocks =
-        elim (fits_one_page g level) as (λ t. cond t (fresh_at g.blocks 1 g.blocks 2) (fresh_at g.blocks 1 (g.blocks + 1) 1) ≡ Some s → s.at.block ≡ g.blocks) [
-          | true ↦ λ is. (fresh_numbers g.blocks 1 g.blocks 2 s is).0
-          | false ↦ λ is. (fresh_numbers g.blocks 1 (g.blocks + 1) 1 s is).0
-        ] e in
+    elim (fits_one_page g level) as (λ t. cond t (fresh_at g.blocks 1 g.blocks 2) (fresh_at g.blocks 1 (g.blocks + 1) 1) ≡ Some s → s.at.block ≡ g.blocks) [
+      | true ↦ λ is. (fresh_numbers g.blocks 1 g.blocks 2 s is).0
+      | false ↦ λ is. (fresh_numbers g.blocks 1 (g.blocks + 1) 1 s is).0
+    ] e in
     let low = (on s.at n stands).0 in
     absurd (omega (arith, here, low))
 

@@ -1,12 +1,12 @@
 -- Parts of legal histories.
-use Rattle.std.proofs.Common.{◌≡◌, ◌≢◌, ◌⊎◌, inl, inr, ℕ, zero, suc, ◌+◌, ◌<◌, ◌≤◌, List, [], ◌∷◌, ◌++◌, take, slice_get, Option, Some, None, refl, sym, ap, subst, ◌∙◌, append_assoc, append-nil, arith}
+use Rattle.std.proofs.Common.{◌≡◌, ◌≢◌, ◌⊎◌, inl, inr, ℕ, zero, suc, ◌<◌, List, [], ◌∷◌, ◌++◌, take, slice_get, Some, sym, ap, subst, ◌∙◌, append_assoc, append-nil, arith}
 use Rattle.std.proofs.lemmas.Option.{same_Some, none-some}
 use Rattle.vec_event.specs.declared.event.Act.{Act}
 use Rattle.vec_event.specs.declared.gate.Gate.{Gate}
 use Rattle.vec_event.specs.declared.gate.Hold.{Hold}
 use Rattle.vec_event.specs.declared.gate.Hold.TheVariants.{Shared, Alone}
 use Rattle.vec_graph.specs.declared.graph.Graph.{Graph}
-use Rattle.vec_graph.specs.Holding.{HoldsSince, HoldsAs, NoneAfter}
+use Rattle.vec_graph.specs.Holding.{HoldsSince, HoldsAs}
 use Rattle.vec_graph.specs.Legal.{IsAllowed, IsLegal, IsLegalAfter}
 
 -- ---- the first part of a list
@@ -48,9 +48,9 @@ more_after base before (b ∷ acts) a l may =
 pub held_before : (acts : List Act) (desk : ℕ) (gate : Gate) (hold : Hold) (k n : ℕ) → k < n → HoldsSince acts desk gate hold k
     → HoldsSince (take n acts) desk gate hold k
 held_before acts desk gate hold k n h s = record {
-    taken = in_part n acts k _ h s.taken;
-    kept = λ j a after is of_gate. s.kept j a after (in_whole n acts j a is) of_gate;
-  }
+  taken = in_part n acts k _ h s.taken;
+  kept = λ j a after is of_gate. s.kept j a after (in_whole n acts j a is) of_gate;
+}
 
 OnlyAlone : Hold → Type 0
 OnlyAlone Alone = Unit {0}
@@ -60,7 +60,7 @@ not_shared : Alone ≡ Shared → ⊥
 unfolding OnlyAlone
 not_shared e = subst OnlyAlone e tt
 
-in_order : (i j : ℕ) → (i < j) ⊎ ((i ≡ j) ⊎ (j < i))
+pub in_order : (i j : ℕ) → (i < j) ⊎ ((i ≡ j) ⊎ (j < i))
 in_order i j = grind arith
 
 pub one_alone : (base : Graph) (acts : List Act) → IsLegal base acts → (gate : Gate) (hold : Hold) (desk other : ℕ) → other ≢ desk
@@ -68,8 +68,8 @@ pub one_alone : (base : Graph) (acts : List Act) → IsLegal base acts → (gate
 one_alone base acts legal gate hold desk other ne d o =
     elim (in_order d.0 o.0) as (λ _. ⊥) [
       | inl before ↦
-        not_shared ((each_after base [] acts o.0 _ legal o.1.taken).beside desk Alone (λ e. ne (sym e)) (d.0, held_before acts desk gate Alone d.0 o.0 before d.1)).1
+          not_shared ((each_after base [] acts o.0 _ legal o.1.taken).beside desk Alone (λ e. ne (sym e)) (d.0, held_before acts desk gate Alone d.0 o.0 before d.1)).1
       | inr (inl same) ↦ ne (ap (λ (a : Act). a.desk) (same_Some _ _ (sym o.1.taken ∙ ap (slice_get acts) (sym same) ∙ d.1.taken)))
       | inr (inr behind) ↦
-        not_shared ((each_after base [] acts d.0 _ legal d.1.taken).beside other hold ne (o.0, held_before acts other gate hold o.0 d.0 behind o.1)).0
+          not_shared ((each_after base [] acts d.0 _ legal d.1.taken).beside other hold ne (o.0, held_before acts other gate hold o.0 d.0 behind o.1)).0
     ]

@@ -1,5 +1,5 @@
 -- What each event changes.
-use Rattle.std.specs.Prelude.{◌≡◌, ℕ, ◌+◌, ◌/◌, ◌%◌, ◌==◌, ◌||◌, if◌then◌else◌, max, ⊤, Bool, true, false, List, [], ◌∷◌, ◌++◌, take, length, replicate, slice_set, Option, Some, None}
+use Rattle.std.specs.Prelude.{ℕ, ◌+◌, ◌/◌, ◌%◌, ◌==◌, ◌||◌, if◌then◌else◌, max, ⊤, Bool, true, false, List, [], ◌∷◌, ◌++◌, take, length, replicate, slice_set, Option, Some, None}
 use Rattle.std.specs.FinMap.{insert}
 use Rattle.vec_names.specs.declared.tid.Tid.{Tid}
 use Rattle.vec_names.specs.declared.heap_id.HeapId.{HeapId}
@@ -36,12 +36,12 @@ dropped gone n = record n { ids = kept gone n.ids }
 -- a deleted node keeps its level and its places, and the lengths of its bits and slots
 abbrev pub marked : ℕ → Node → Node
 marked wrap n = record n {
-    version = next_version wrap n.version;
-    deleted = true;
-    bits = replicate (length n.bits) false;
-    ids = [];
-    slots = replicate (length n.slots) None;
-  }
+  version = next_version wrap n.version;
+  deleted = true;
+  bits = replicate (length n.bits) false;
+  ids = [];
+  slots = replicate (length n.slots) None;
+}
 
 -- ---- of the graph
 
@@ -63,9 +63,9 @@ blocks_with g at list_at = max g.blocks (max (at.block + 1) (list_at.block + 1))
 -- the graph with a new node, which has one id
 abbrev pub with_new : Graph → Tid → Tid → ℕ → ℕ → HeapId → List Bool → List (Option Tid) → Graph
 with_new g at list_at version level id bits lists = record g {
-    nodes = insert g.nodes at (record { level = level; version = version; deleted = false; bits = bits; ids = id ∷ []; list_at = list_at; slots = lists });
-    blocks = blocks_with g at list_at;
-  }
+  nodes = insert g.nodes at (record { level = level; version = version; deleted = false; bits = bits; ids = id ∷ []; list_at = list_at; slots = lists });
+  blocks = blocks_with g at list_at;
+}
 
 -- The graph after an event. A passing event leaves it as it is, and so does an event of an index of lists.
 abbrev pub effect : ℕ → Event → Graph → Graph

@@ -1,5 +1,5 @@
 -- The index graph: its nodes, which of them are live or doomed, and the members of their layers.
-use Rattle.std.specs.Prelude.{◌≡◌, ℕ, ◌+◌, ◌*◌, ◌-◌, ◌/◌, ◌≤◌, ◌≢◌, ◌==◌, if◌then◌else◌, Bool, true, false, List, [], take, drop, map, slice_get, flat_map, Option, Some, None}
+use Rattle.std.specs.Prelude.{◌≡◌, ℕ, ◌+◌, ◌*◌, ◌-◌, ◌/◌, ◌≤◌, ◌≢◌, ◌==◌, if◌then◌else◌, Bool, false, List, [], take, drop, map, slice_get, flat_map, Option, Some}
 use Rattle.std.specs.FinMap.{get, values}
 use Rattle.vec_names.specs.declared.tid.Tid.{Tid}
 use Rattle.vec_names.specs.declared.heap_id.HeapId.{HeapId}

@@ -1,5 +1,5 @@
 -- How far a vacuum is: the phase that stands, and the two barriers between its passes.
-use Rattle.std.specs.Prelude.{◌≡◌, ℕ, ◌+◌, ◌<◌, ◌≤◌, ⊤, List, take, Option, Some, None}
+use Rattle.std.specs.Prelude.{◌≡◌, ℕ, ◌+◌, ◌<◌, ◌≤◌, ⊤, List, take, Some}
 use Rattle.vec_names.specs.declared.tid.Tid.{Tid}
 use Rattle.vec_event.specs.declared.event.Event.{Event}
 use Rattle.vec_event.specs.declared.event.Event.TheVariants as event
@@ -10,7 +10,7 @@ use Rattle.vec_event.specs.declared.gate.Hold.TheVariants.{Alone}
 use Rattle.vec_event.specs.declared.stage.Stage.{Stage}
 use Rattle.vec_event.specs.declared.stage.Stage.TheVariants.{Remove, Repair}
 use Rattle.vec_graph.specs.declared.graph.Graph.{Graph}
-use Rattle.vec_graph.specs.Graph.{node_at, IsLiveAt, IsDoomedAt, HasMember}
+use Rattle.vec_graph.specs.Graph.{IsLiveAt, IsDoomedAt, HasMember}
 use Rattle.vec_graph.specs.Effect.{state_after}
 use Rattle.vec_graph.specs.Holding.{IsActAt, NoneAfter}
 

@@ -5,7 +5,7 @@ use Rattle.vec_event.specs.declared.event.Event.{Event}
 use Rattle.vec_event.specs.declared.event.Event.TheVariants as event
 use Rattle.vec_event.specs.declared.event.Act.{Act}
 use Rattle.vec_event.specs.declared.gate.Gate.{Gate}
-use Rattle.vec_event.specs.declared.gate.Gate.TheVariants.{Update, Scan, Vacuum}
+use Rattle.vec_event.specs.declared.gate.Gate.TheVariants.{Update, Vacuum}
 use Rattle.vec_event.specs.declared.gate.Hold.{Hold}
 use Rattle.vec_event.specs.declared.gate.Hold.TheVariants.{Shared, Alone}
 use Rattle.vec_event.specs.declared.stage.Stage.{Stage}

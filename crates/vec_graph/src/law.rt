@@ -1,6 +1,6 @@
 //! What the definitions of the graph and of its histories mean: laws, and no work.
 
-ghost use Rattle.std.specs.Prelude.{◌≡◌, ◌≢◌, ◌⊎◌, ℕ, ◌++◌, ◌∷◌, [], true, false, take, slice_get, Some, List, Bool, Option};
+ghost use Rattle.std.specs.Prelude.{◌≡◌, ◌≢◌, ◌⊎◌, ℕ, ◌++◌, ◌∷◌, [], true, false, take, slice_get, Some, List, Bool, Option, ◌≤◌, ◌↔◌, length, Contains};
 ghost use Rattle.vec_names.specs.declared.tid.Tid.{Tid as Tids};
 ghost use Rattle.vec_event.specs.declared.event.Act.{Act};
 ghost use Rattle.vec_event.specs.declared.gate.Gate.{Gate as Gates};
@@ -9,9 +9,11 @@ ghost use Rattle.vec_event.specs.declared.gate.Hold.TheVariants.{Alone};
 ghost use Rattle.vec_names.specs.declared.heap_id.HeapId.{HeapId as HeapIds};
 ghost use Rattle.vec_graph.specs.declared.graph.Graph.{Graph as Graphs};
 ghost use Rattle.vec_graph.specs.declared.node.Node.{Node};
-ghost use Rattle.vec_graph.specs.Graph.{IsLive, IsDoomed, HasLevel, slot_layer, entries};
+ghost use Rattle.vec_graph.specs.Graph.{IsLive, IsDoomed, HasLevel, IsMember, layer_slots, slot_layer, entries};
 ghost use Rattle.vec_graph.specs.Effect.{effect, after, state_after, kept, next_version, AreIdsChanged};
-ghost use Rattle.vec_graph.specs.Holding.{HoldsAs};
+ghost use Rattle.vec_graph.specs.Holding.{HoldsAs, HoldsSince};
+ghost use Rattle.vec_event.specs.declared.stage.Stage.{Stage as Stages};
+ghost use Rattle.vec_graph.specs.Phases.{PhaseSince};
 ghost use Rattle.vec_graph.specs.Places.{element_need, list_need, fits_one_page, IsOnBlocks, IsFree};
 ghost use Rattle.vec_graph.specs.Rules.{IsPutAllowed, most_level};
 ghost use Rattle.vec_graph.specs.Legal.{IsAllowed, IsLegal};
@@ -34,6 +36,22 @@ pub fn law_alone(base: &Graph, acts: &[Act])
     ensures { (gate : Gates) (hold : Holding) (desk other : ℕ) → other ≢ desk → HoldsAs acts.now desk gate Alone → HoldsAs acts.now other gate hold → ⊥ }
 {}
 
+/// A law, and no work. After any acts a desk holds a gate in one way at most, since one act; and one phase
+/// stands at most, which one desk made by one act.
+pub fn law_one_at_a_time(acts: &[Act])
+    ensures hold { (desk : ℕ) (gate : Gates) (h1 h2 : Holding) (k1 k2 : ℕ) → HoldsSince acts.now desk gate h1 k1 → HoldsSince acts.now desk gate h2 k2
+        → (k1 ≡ k2) × (h1 ≡ h2) }
+    ensures phase { (d1 d2 : ℕ) (s1 s2 : Stages) (k1 k2 : ℕ) → PhaseSince acts.now d1 s1 k1 → PhaseSince acts.now d2 s2 k2
+        → (k1 ≡ k2) × (d1 ≡ d2) × (s1 ≡ s2) }
+{}
+
+/// A law, and no work. The members of a layer, by the layer of each slot, are those that the layer's part
+/// of the slots names.
+pub fn law_layers()
+    ensures { (m level layer : ℕ) (slots : List (Option Tids)) (to : Tids) → 1 ≤ m → layer ≤ level
+        → IsMember m level slots layer to ↔ Contains (layer_slots m level layer slots) (Some to) }
+{}
+
 /// A law, and no work. A node is live, or doomed, or deleted, and not two of these; and one that has
 /// ids and is not deleted is live.
 pub fn law_live()
@@ -47,10 +65,8 @@ pub fn law_live()
 /// A law, and no work. After any acts, an act that is allowed and puts no node, joins no id and drops
 /// none leaves the entries as they are.
 pub fn law_entries(base: &Graph, acts: &[Act])
-    ensures {
-        (a : Act) → IsAllowed base.now acts.now a
-            → AreIdsChanged a.event ⊎ (entries (effect 255 a.event (after base.now acts.now)) ≡ entries (after base.now acts.now))
-    }
+    ensures { (a : Act) → IsAllowed base.now acts.now a
+        → AreIdsChanged a.event ⊎ (entries (effect 255 a.event (after base.now acts.now)) ≡ entries (after base.now acts.now)) }
 {}
 
 /// A law, and no work. Where the nodes of the base stand on its blocks, they do so after any acts; and a
@@ -58,10 +74,8 @@ pub fn law_entries(base: &Graph, acts: &[Act])
 pub fn law_places(base: &Graph, acts: &[Act])
     requires { IsOnBlocks base.now }
     ensures on_blocks { IsOnBlocks (after base.now acts.now) }
-    ensures free {
-        (desk version level : ℕ) (at list_at : Tids) (bits : List Bool) (lists : List (Option Tids))
-            → IsPutAllowed base.now acts.now desk at list_at version level bits lists → IsFree (after base.now acts.now) at level
-    }
+    ensures free { (desk version level : ℕ) (at list_at : Tids) (bits : List Bool) (lists : List (Option Tids))
+        → IsPutAllowed base.now acts.now desk at list_at version level bits lists → IsFree (after base.now acts.now) at level }
 {}
 
 /// A law, and no work. Where the nodes of the base stand on its blocks, a place at which a node stands at

@@ -8,4 +8,4 @@ returns-clause-on_blocks c = on_blocks_after c.args.base.now c.args.acts.now c.r
 pub returns-clause-free : goal.returns-clause-free
 returns-clause-free c = λ desk version level at list_at bits lists may.
     free_place (after c.args.base.now c.args.acts.now) at level (record { at = at; list_at = list_at; version = version })
-        (on_blocks_after c.args.base.now c.args.acts.now c.requires) may.placed
+    (on_blocks_after c.args.base.now c.args.acts.now c.requires) may.placed
