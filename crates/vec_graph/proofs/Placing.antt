@@ -203,3 +203,6 @@ on_effect (DiskFaulted count) g on = on
 pub on_blocks_after : (g : Graph) (acts : List Act) → IsOnBlocks g → IsOnBlocks (after g acts)
 on_blocks_after g [] on = on
 on_blocks_after g (a ∷ acts) on = on_blocks_after (effect 255 a.event g) acts (on_effect a.event g on)
+
+pub none_on_empty : (nodes : fin.FinMap tid_cmp Node) → nodes ≡ fin.empty → (at : Tid) (n : Node) → fin.get nodes at ≡ Some n → ⊥
+none_on_empty nodes empty at n is = none-some n (sym (ap (λ (m : fin.FinMap tid_cmp Node). fin.get m at) empty ∙ fin.get-empty tid_cmp at) ∙ is)

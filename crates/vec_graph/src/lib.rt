@@ -16,3 +16,6 @@ pub use law::{
     law_one_at_a_time, law_places,
 };
 pub use node::Node;
+
+#[cfg(test)]
+mod tests;
