@@ -4,3 +4,4 @@ pub mod Placing
 pub mod Levels
 pub mod Layers
 pub mod OneAtATime
+pub mod FirstInsert

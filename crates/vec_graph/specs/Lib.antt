@@ -6,3 +6,4 @@ pub mod Phases
 pub mod Rules
 pub mod Legal
 pub mod Sound
+pub mod Examples

@@ -55,8 +55,8 @@ abbrev pub IsDrop : Event → Type 0
 IsDrop (event.Drop at version gone) = ⊤
 IsDrop _ = ⊥
 
--- The passes of removing may end: after Phase Remove and after the last Drop the desk had Update alone, and has released it. So each desk
--- that holds Update later took it when all ids were dropped; it knows no node that was doomed at `position`, right after the Gate.
+-- Removing is done: the desk's phase Remove stands, and after its act and after the last Drop the desk took Update alone, and has released it.
+-- `position` is right after the last such Gate. Whoever holds Update from then on took it behind the last Drop.
 pub record IsRemoved (acts : List Act) (desk position : ℕ) : Type 0 where
   pub begun : ℕ
   pub phase : PhaseSince acts desk Remove begun
@@ -85,9 +85,8 @@ pub record WereCleaned (base : Graph) (acts : List Act) (low high : ℕ) : Type 
   pub layers : (at : Tid) (layer : ℕ) → IsLiveAt (state_after base acts low) at layer → SomeState base acts low high (λ g. IsCleanAt g at layer)
   pub entry : SomeState base acts low high IsEntryClean
 
--- The passes of repair may end: the desk had Scan alone after Phase Repair, and has released it, and from the barrier of Update to right
--- before that Gate all was cleaned at some time. So no scan that began before it still goes on, and none that begins later meets a node
--- that was doomed at the barrier of Update.
+-- Repairing is done: the desk's phase Repair stands, and after its act the desk took Scan alone, and has released it. From the position of
+-- its barrier of Update to right before the last such Gate all was cleaned at some time. Whoever holds Scan from then on began behind that.
 pub record IsRepaired (base : Graph) (acts : List Act) (desk : ℕ) : Type 0 where
   pub begun : ℕ
   pub phase : PhaseSince acts desk Repair begun

@@ -14,9 +14,10 @@ ghost use Rattle.vec_graph.specs.Effect.{effect, after, state_after, kept, next_
 ghost use Rattle.vec_graph.specs.Holding.{HoldsAs, HoldsSince};
 ghost use Rattle.vec_event.specs.declared.stage.Stage.{Stage as Stages};
 ghost use Rattle.vec_graph.specs.Phases.{PhaseSince};
-ghost use Rattle.vec_graph.specs.Places.{element_need, list_need, fits_one_page, IsOnBlocks, IsFree};
+ghost use Rattle.vec_graph.specs.Places.{new_place, element_need, list_need, fits_one_page, IsOnBlocks, IsFree};
 ghost use Rattle.vec_graph.specs.Rules.{IsPutAllowed, most_level};
 ghost use Rattle.vec_graph.specs.Legal.{IsAllowed, IsLegal};
+ghost use Rattle.vec_graph.specs.Examples.{first_insert};
 
 use crate::graph::Graph;
 use vec_event::Act;
@@ -102,4 +103,14 @@ pub fn law_examples()
     // The mask 5 names the first id and the third.
     ensures kept_ids { (a b c : HeapIds) → kept 5 (a ∷ b ∷ c ∷ []) ≡ b ∷ [] }
     ensures versions { (next_version 255 15 ≡ 16) × (next_version 255 255 ≡ 1) × (next_version 15 15 ≡ 1) }
+{}
+
+/// A law, and no work. In an index of one block and with m 2 the first insert, as an index makes it, is a
+/// legal history, with any value of the index's length.
+pub fn law_first_insert(base: &Graph)
+    requires one_block { base.now.blocks ≡ 1 }
+    requires m_2 { base.now.params.m ≡ 2 }
+    ensures { (desk : ℕ) (at list_at : Tids) (id : HeapIds) (bits : List Bool) → length bits ≡ base.now.params.bits
+        → new_place base.now 0 ≡ Some (record { at = at; list_at = list_at; version = 1 })
+        → IsLegal base.now (first_insert desk at list_at id bits) }
 {}

@@ -31,4 +31,5 @@ fn laws_before_any_act(rt: HostRuntime) {
     law_layers();
     law_live();
     law_examples();
+    law_first_insert(&base);
 }
