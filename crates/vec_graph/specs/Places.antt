@@ -30,7 +30,7 @@ list_need g level = need (4 + 6 * slots_of_level g.params.m level)
 abbrev pub one_if : Bool → ℕ → ℕ
 one_if b n = if b then n else 0
 
--- what a node takes of a block, on which its element may stand, and its list
+-- what a node takes of a block: its element where that stands there, and its list where that does
 abbrev pub taken_on : Graph → ℕ → (Tid × Node) → ℕ
 taken_on g b e = one_if (e.0.block == b) (element_need g) + one_if (e.1.list_at.block == b) (list_need g e.1.level)
 

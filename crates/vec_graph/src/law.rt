@@ -1,6 +1,6 @@
 //! What the definitions of the graph and of its histories mean: laws, and no work.
 
-ghost use Rattle.std.specs.Prelude.{◌≡◌, ◌≢◌, ◌⊎◌, ℕ, ◌++◌, ◌∷◌, [], true, false, take, slice_get, Some, List, Bool, Option, ◌≤◌, ◌↔◌, length, Contains};
+ghost use Rattle.std.specs.Prelude.{◌≡◌, ◌≢◌, ◌⊎◌, ℕ, ◌++◌, ◌∷◌, [], true, false, take, slice_get, Some, None, List, Bool, Option, ◌≤◌, ◌↔◌, length, Contains};
 ghost use Rattle.vec_names.specs.declared.tid.Tid.{Tid as Tids};
 ghost use Rattle.vec_event.specs.declared.event.Act.{Act};
 ghost use Rattle.vec_event.specs.declared.gate.Gate.{Gate as Gates};
@@ -17,7 +17,8 @@ ghost use Rattle.vec_graph.specs.Phases.{PhaseSince};
 ghost use Rattle.vec_graph.specs.Places.{new_place, element_need, list_need, fits_one_page, IsOnBlocks, IsFree};
 ghost use Rattle.vec_graph.specs.Rules.{IsPutAllowed, most_level};
 ghost use Rattle.vec_graph.specs.Legal.{IsAllowed, IsLegal};
-ghost use Rattle.vec_graph.specs.Examples.{first_insert};
+ghost use Rattle.vec_graph.specs.Examples.{first_insert, idle_vacuum};
+ghost use Rattle.std.specs.FinMap as map;
 
 use crate::graph::Graph;
 use vec_event::Act;
@@ -113,4 +114,12 @@ pub fn law_first_insert(base: &Graph)
     ensures { (desk : ℕ) (at list_at : Tids) (id : HeapIds) (bits : List Bool) → length bits ≡ base.now.params.bits
         → new_place base.now 0 ≡ Some (record { at = at; list_at = list_at; version = 1 })
         → IsLegal base.now (first_insert desk at list_at id bits) }
+{}
+
+/// A law, and no work. A vacuum of an index that has no node, with its three phases and both barriers, is
+/// a legal history.
+pub fn law_idle_vacuum(base: &Graph)
+    requires no_nodes { base.now.nodes ≡ map.empty }
+    requires no_entry { base.now.entry ≡ None }
+    ensures { (desk : ℕ) → IsLegal base.now (idle_vacuum desk) }
 {}

@@ -32,4 +32,5 @@ fn laws_before_any_act(rt: HostRuntime) {
     law_live();
     law_examples();
     law_first_insert(&base);
+    law_idle_vacuum(&base);
 }
