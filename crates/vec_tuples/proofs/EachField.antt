@@ -1,6 +1,7 @@
 -- Each field is read as it is spelled.
-use Rattle.std.proofs.Common.{◌≡◌, ℕ, ◌+◌, ◌/◌, ◌<◌, ◌≤◌, ◌^◌, Bool, true, false, not, ◌&&◌, leb, slice_index_or, List, [], ◌∷◌, ◌++◌, length, take, drop, Option, Some, None, refl, sym, ap, subst, ◌∙◌, arith, lit≤}
-use Rattle.std.specs.Prelude.{slice_index}
+use Rattle.std.proofs.Common.{◌≡◌, ℕ, ◌+◌, ◌/◌, ◌<◌, ◌≤◌, ◌^◌, Bool, true, false, not, ◌&&◌, leb, slice_index_or, List, [], ◌∷◌, ◌++◌, length, take, drop, Option, Some, None, refl, sym, ap, subst, ◌∙◌, arith, lit≤, lit<}
+use Rattle.std.specs.Prelude.{slice_index, replicate}
+use Rattle.std.proofs.lemmas.List.{length-replicate}
 use Rattle.std.specs.Int.{w16, w32, to_le_bytes, from_le_bytes}
 use Rattle.std.proofs.lemmas.Bool.{and_parts, and_from, leb-true, le-leb}
 use Rattle.std.proofs.lemmas.Nat.{le_bytes_2, le_bytes_4, from_le_bytes-to_le_bytes_2, from_le_bytes-to_le_bytes_4}
@@ -48,10 +49,11 @@ only_byte low high (x ∷ []) v len is =
     let t = told_only (leb low x && leb x high) x v is in
     (ap one_byte t.1, subst (IsFrom low high) t.1 (range_of low high x t.0))
 
-pub byte_field : (low high : ℕ) → IsField (byte_from low high) one_byte (IsFrom low high) 1
+pub byte_field : (low high : ℕ) → low ≤ high → IsField (byte_from low high) one_byte (IsFrom low high) 1
 unfolding byte_from
-byte_field low high = field_law 1 (λ b. only_if (leb low (slice_index b 0) && leb (slice_index b 0) high) (slice_index b 0)) one_byte (IsFrom low high) (record {
+byte_field low high some = field_law 1 (λ b. only_if (leb low (slice_index b 0) && leb (slice_index b 0) high) (slice_index b 0)) one_byte (IsFrom low high) (record {
   some = lit≤ tt;
+  inhabited = (low, (omega arith, some));
   long = λ v p. refl;
   meant_by = λ v p. allowed _ v (in_range low high v p);
   only = λ bytes v len bs is. only_byte low high bytes v len is;
@@ -59,10 +61,11 @@ byte_field low high = field_law 1 (λ b. only_if (leb low (slice_index b 0) && l
 
 -- ---- numbers of two and four bytes
 
-pub two_bytes_field : (low high : ℕ) → high < 2 ^ 16 → IsField (two_bytes_from low high) (to_le_bytes w16) (IsFrom low high) 2
+pub two_bytes_field : (low high : ℕ) → low ≤ high → high < 2 ^ 16 → IsField (two_bytes_from low high) (to_le_bytes w16) (IsFrom low high) 2
 unfolding two_bytes_from
-two_bytes_field low high small = field_law 2 (λ b. only_if (leb low (from_le_bytes w16 b) && leb (from_le_bytes w16 b) high) (from_le_bytes w16 b)) (to_le_bytes w16) (IsFrom low high) (record {
+two_bytes_field low high some small = field_law 2 (λ b. only_if (leb low (from_le_bytes w16 b) && leb (from_le_bytes w16 b) high) (from_le_bytes w16 b)) (to_le_bytes w16) (IsFrom low high) (record {
   some = lit≤ tt;
+  inhabited = (low, (omega arith, some));
   long = λ v p. refl;
   meant_by = λ v p. rw (from_le_bytes-to_le_bytes_2 v (omega (arith, p.1, small))) (allowed _ v (in_range low high v p));
   only = λ bytes v len bs is.
@@ -70,10 +73,11 @@ two_bytes_field low high small = field_law 2 (λ b. only_if (leb low (from_le_by
       (sym (le_bytes_2 bytes v len bs (sym t.1)), subst (IsFrom low high) t.1 (range_of low high (from_le_bytes w16 bytes) t.0));
 })
 
-pub four_bytes_field : (low high : ℕ) → high < 2 ^ 32 → IsField (four_bytes_from low high) (to_le_bytes w32) (IsFrom low high) 4
+pub four_bytes_field : (low high : ℕ) → low ≤ high → high < 2 ^ 32 → IsField (four_bytes_from low high) (to_le_bytes w32) (IsFrom low high) 4
 unfolding four_bytes_from
-four_bytes_field low high small = field_law 4 (λ b. only_if (leb low (from_le_bytes w32 b) && leb (from_le_bytes w32 b) high) (from_le_bytes w32 b)) (to_le_bytes w32) (IsFrom low high) (record {
+four_bytes_field low high some small = field_law 4 (λ b. only_if (leb low (from_le_bytes w32 b) && leb (from_le_bytes w32 b) high) (from_le_bytes w32 b)) (to_le_bytes w32) (IsFrom low high) (record {
   some = lit≤ tt;
+  inhabited = (low, (omega arith, some));
   long = λ v p. refl;
   meant_by = λ v p. rw (from_le_bytes-to_le_bytes_4 v (omega (arith, p.1, small))) (allowed _ v (in_range low high v p));
   only = λ bytes v len bs is.
@@ -94,6 +98,7 @@ pub optional_field : IsField optional_place tid_option_bytes (λ _. Unit {0}) 6
 unfolding optional_place
 optional_field = field_law 6 tid_option_in tid_option_bytes (λ _. Unit {0}) (record {
   some = lit≤ tt;
+  inhabited = (None, tt);
   long = λ o _. length-tid_option_bytes o;
   meant_by = λ o _. tid_option_in-again o;
   only = λ bytes o len bs is. (optional_only bytes o len bs is, tt);
@@ -113,6 +118,7 @@ pub none_field : IsField no_place tid_option_bytes (λ o. o ≡ None) 6
 unfolding no_place
 none_field = field_law 6 (λ b. none_alone (tid_option_in b)) tid_option_bytes (λ o. o ≡ None) (record {
   some = lit≤ tt;
+  inhabited = (None, refl);
   long = λ o _. length-tid_option_bytes o;
   meant_by = λ o e. rw e (ap none_alone (tid_option_in-again None) ∙ none_told);
   only = λ bytes o len bs is.
@@ -138,6 +144,7 @@ pub row_field : IsField heap_id heap_id_bytes (λ _. Unit {0}) 6
 unfolding heap_id
 row_field = field_law 6 heap_id_in heap_id_bytes (λ _. Unit {0}) (record {
   some = lit≤ tt;
+  inhabited = (record { block = 0; off = 1; within_blocks = lit< tt; counted_from_one = lit≤ tt; in_two_bytes = lit< tt }, tt);
   long = λ id _. length-pointer_bytes id.block id.off;
   meant_by = λ id _. heap_id_in-again id;
   only = λ bytes id len bs is. (sym (pointer_bytes-back bytes len bs) ∙ heap_id_of-spelled (block_in bytes) (off_in bytes) (Some id) (sym is), tt);
@@ -153,6 +160,7 @@ unfolding packed_places
 packed_field count some few =
     field_law ((count + 7) / 8) (λ b. only_if (list_all not (drop count (unpacked b))) (take count (unpacked b))) packed (λ xs. length xs ≡ count) (record {
       some = omega (arith, some);
+      inhabited = (replicate count false, length-replicate count false);
       long = λ xs len. rw (← len) (length-packed xs);
       meant_by = λ xs len.
           let kept = packed-Packed xs (omega (arith, some, len)) (omega (arith, few, len)) in
@@ -176,7 +184,7 @@ unfolding bit_value
 bits_field count some few =
     wider (4 + (4 + (count + 7) / 8)) (8 + (count + 7) / 8) (omega arith)
     (viewed_law _ _
-    (then_law (four_bytes_field (length_word count) (length_word count) (omega (arith, few))) (then_law (four_bytes_field count count (omega (arith, few))) (packed_field count some few)))
+    (then_law (four_bytes_field (length_word count) (length_word count) (omega arith) (omega (arith, few))) (then_law (four_bytes_field count count (omega arith) (omega (arith, few))) (packed_field count some few)))
     bits_bytes (λ xs. length xs ≡ count)
     (λ bits len.
     ((length_word count, (count, bits)), refl, ((omega arith, omega arith), ((omega arith, omega arith), len)), head_text count (length_word count) count bits len (omega arith, omega arith) (omega arith, omega arith)))

@@ -1,7 +1,8 @@
 -- What holds of a reader and the spelling that it reads.
-use Rattle.std.proofs.Common.{◌≡◌, ℕ, ◌+◌, ◌<◌, ◌≤◌, Bool, true, false, cond, ltb, List, ◌++◌, length, get_or, take, drop, Option, Some, None, refl, sym, ap, ap₂, subst, ◌∙◌, append_assoc, arith, ◌⊎◌, inl, inr}
+use Rattle.std.proofs.Common.{◌≡◌, ℕ, ◌+◌, ◌-◌, ◌<◌, ◌≤◌, Bool, true, false, cond, ltb, List, ◌++◌, length, get_or, take, drop, Option, Some, None, refl, sym, ap, ap₂, subst, ◌∙◌, append_assoc, arith, ◌⊎◌, inl, inr}
 use Rattle.std.proofs.lemmas.Bool.{ltb-false, le-ltb}
 use Rattle.std.proofs.lemmas.List.{length-append, length-take, take-append-drop, take_at, drop_at, get_or-drop, get_or-take, get_or_past}
+use Rattle.std.proofs.Math.Seq.{take-append-add}
 use Rattle.std.proofs.lemmas.Bool.{cases_lt}
 use Rattle.vec_tuples.specs.Reading.{Read, Got, Bad, Reader, ◌>>=◌, told, field, with_next, and_then, viewed, ◌⨟◌}
 
@@ -23,12 +24,14 @@ pub AreBytes-rest : (bytes text rest : List ℕ) → AreBytes bytes → bytes �
 AreBytes-rest bytes text rest h parts = subst AreBytes (ap (λ (b : List ℕ). drop (length text) b) parts ∙ drop_at text rest (length text) refl) (AreBytes-drop (length text) bytes h)
 
 -- A reader of what is spelled so: what it gets is spelled by the bytes that it took, each value that fits is got from
--- its spelling whatever follows, and a bad field is found near.
+-- its spelling whatever follows, a bad field is found near, and what stands before it begins the spelling of some value.
 pub record IsField {A : Type 0} (f : Reader A) (spell : A → List ℕ) (Fits : A → Type 0) (most : ℕ) : Type 0 where
   pub takes : (bytes : List ℕ) (v : A) (rest : List ℕ) → AreBytes bytes → f bytes ≡ Got v rest → (bytes ≡ spell v ++ rest) × Fits v
   pub again : (v : A) (rest : List ℕ) → Fits v → f (spell v ++ rest) ≡ Got v rest
   pub small : (v : A) → Fits v → length (spell v) ≤ most
   pub near : (bytes : List ℕ) (left : ℕ) → AreBytes bytes → f bytes ≡ Bad left → (left ≤ length bytes) × (length bytes < left + most)
+  pub alive : (bytes : List ℕ) (left : ℕ) → AreBytes bytes → f bytes ≡ Bad left → (v : A) × Fits v × (more : List ℕ) × (spell v ≡ take (length bytes - left) bytes ++ more)
+  pub inhabited : (v : A) × Fits v
 
 -- ---- what was got, or was bad, in two steps
 
@@ -72,6 +75,7 @@ module _ {A : Type 0} (n : ℕ) (meant : List ℕ → Option A) where
   -- the value's bytes are n, they mean it, and no others do
   pub record Means (spell : A → List ℕ) (Fits : A → Type 0) : Type 0 where
     pub some : 1 ≤ n
+    pub inhabited : (v : A) × Fits v
     pub long : (v : A) → Fits v → length (spell v) ≡ n
     pub meant_by : (v : A) → Fits v → meant (spell v) ≡ Some v
     pub only : (bytes : List ℕ) (v : A) → length bytes ≡ n → AreBytes bytes → meant bytes ≡ Some v → (bytes ≡ spell v) × Fits v
@@ -93,7 +97,20 @@ module _ {A : Type 0} (n : ℕ) (meant : List ℕ → Option A) where
     near = λ bytes left bs is.
         let t = any_bad bytes (ltb (length bytes) n) (meant (take n bytes)) left is in
         (omega (arith, t), omega (arith, t, means.some));
+    alive = λ bytes left bs is.
+        let t = any_bad bytes (ltb (length bytes) n) (meant (take n bytes)) left is in
+        let none : length bytes - left ≡ 0 = omega (arith, t) in
+        let v = means.inhabited in
+        (v.0, v.1, spell v.0, ap (λ k. take k bytes ++ spell v.0) (sym none));
+    inhabited = means.inhabited;
   }
+
+-- what stands before a place behind the first text
+front_of : (bytes text rest : List ℕ) (left : ℕ) → bytes ≡ text ++ rest → left ≤ length rest → take (length bytes - left) bytes ≡ text ++ take (length rest - left) rest
+front_of bytes text rest left parts inside =
+    let len : length bytes ≡ length text + length rest = ap (λ (z : List ℕ). length z) parts ∙ length-append text rest in
+    let size : length bytes - left ≡ length text + (length rest - left) = omega (arith, len, inside) in
+    ap₂ (λ (k : ℕ) (z : List ℕ). take k z) size parts ∙ take-append-add text rest (length rest - left)
 
 -- ---- a reader that a field begins
 
@@ -133,6 +150,34 @@ module _ {A B C : Type 0} (made : A → B → C) (f : Reader A) (g : A → Reade
                 | inr b ↦ absurd (got_not_bad b.3)
               ]
         ];
+    alive = λ bytes left bs is.
+        elim (bad_after (f bytes) (λ v between. g v between >>= λ w end. Got (made v w) end) left is) [
+          | inl bad ↦
+              let x = first.alive bytes left bs bad in
+              let y = (second x.0 x.1).inhabited in
+              let p = whole x.0 y.0 x.1 y.1 in
+              (made x.0 y.0, p.0, x.2 ++ t y.0, p.1 ∙ ap (λ (z : List ℕ). z ++ t y.0) x.3 ∙ append_assoc (take (length bytes - left) bytes) x.2 (t y.0))
+          | inr a ↦
+              let x = first.takes bytes a.0 a.1 bs a.2 in
+              elim (bad_after (g a.0 a.1) (λ w end. Got (made a.0 w) end) left a.3) [
+                | inl bad ↦
+                    let rest = AreBytes-rest bytes (s a.0) a.1 bs x.0 in
+                    let y = (second a.0 x.1).alive a.1 left rest bad in
+                    let inside = ((second a.0 x.1).near a.1 left rest bad).0 in
+                    let p = whole a.0 y.0 x.1 y.1 in (
+                      made a.0 y.0,
+                      p.0,
+                      y.2,
+                      p.1 ∙ ap (λ (z : List ℕ). s a.0 ++ z) y.3 ∙ sym (append_assoc (s a.0) (take (length a.1 - left) a.1) y.2)
+                          ∙ ap (λ (z : List ℕ). z ++ y.2) (sym (front_of bytes (s a.0) a.1 left x.0 inside)),
+                    )
+                | inr b ↦ absurd (got_not_bad b.3)
+              ]
+        ];
+    inhabited =
+        let x = first.inhabited in
+        let y = (second x.0 x.1).inhabited in
+        (made x.0 y.0, (whole x.0 y.0 x.1 y.1).0);
   }
 
 -- ---- the same as another value
@@ -156,6 +201,15 @@ module _ {B C : Type 0} (view : B → C) (f : Reader B) where
           | inl bad ↦ law.near bytes left bs bad
           | inr a ↦ absurd (got_not_bad a.3)
         ];
+    alive = λ bytes left bs is.
+        elim (bad_after (f bytes) (λ v end. Got (view v) end) left is) [
+          | inl bad ↦
+              let x = law.alive bytes left bs bad in
+              let p = whole x.0 x.1 in
+              (view x.0, p.0, x.2, p.1 ∙ x.3)
+          | inr a ↦ absurd (got_not_bad a.3)
+        ];
+    inhabited = (view law.inhabited.0, (whole law.inhabited.0 law.inhabited.1).0);
   }
 
 -- ---- a field, and then one that may depend on it
@@ -179,4 +233,6 @@ wider k m le law = record {
   again = law.again;
   small = λ v fits. omega (arith, law.small v fits);
   near = λ bytes left bs is. let n = law.near bytes left bs is in (n.0, omega (arith, n.1));
+  alive = law.alive;
+  inhabited = law.inhabited;
 }

@@ -45,6 +45,7 @@ kind_field : IsField kind (λ k. one_byte (kind_byte k)) (λ _. Unit {0}) 1
 unfolding kind
 kind_field = field_law 1 (λ b. kind_in (slice_index b 0)) (λ k. one_byte (kind_byte k)) (λ _. Unit {0}) (record {
   some = lit≤ tt;
+  inhabited = (Hnsw, tt);
   long = λ k _. refl;
   meant_by = λ k _. kind_again k;
   only = λ bytes k len bs is. (single kind_in kind_byte bytes k (kind_only k) len is, tt);
@@ -65,10 +66,15 @@ unfolding ops_in
 ops_only Hnsw o byte is = (two_codes ops_byte Hamming Jaccard o byte _ _ refl refl refl refl is, tt)
 ops_only Ivf o byte is = one_code ops_byte Hamming o byte _ refl refl is
 
+hamming_of : (k : Kind) → IsOpsOf k Hamming
+hamming_of Hnsw = tt
+hamming_of Ivf = refl
+
 ops_field : (k : Kind) → IsField (ops_of k) (λ o. one_byte (ops_byte o)) (IsOpsOf k) 1
 unfolding ops_of
 ops_field k = field_law 1 (λ b. ops_in k (slice_index b 0)) (λ o. one_byte (ops_byte o)) (IsOpsOf k) (record {
   some = lit≤ tt;
+  inhabited = (Hamming, hamming_of k);
   long = λ o _. refl;
   meant_by = λ o fits. ops_again k o fits;
   only = λ bytes o len bs is. (single (ops_in k) ops_byte bytes o (λ b e. (ops_only k o b e).0) len is, (ops_only k o (slice_index bytes 0) is).1);
@@ -82,17 +88,17 @@ IsMOf Ivf m = IsFrom 0 0 m
 
 m_field : (k : Kind) → IsField (m_of k) (to_le_bytes w16) (IsMOf k) 2
 unfolding m_of
-m_field Hnsw = two_bytes_field 2 100 (lit< tt)
-m_field Ivf = two_bytes_field 0 0 (lit< tt)
+m_field Hnsw = two_bytes_field 2 100 (lit≤ tt) (lit< tt)
+m_field Ivf = two_bytes_field 0 0 (lit≤ tt) (lit< tt)
 
 abbrev IsEfOf : Kind → ℕ → ℕ → Type 0
 IsEfOf Hnsw m ef = IsFrom (2 * m) 1000 ef
 IsEfOf Ivf m ef = IsFrom 0 0 ef
 
-ef_field : (k : Kind) (m : ℕ) → IsField (ef_of k m) (to_le_bytes w16) (IsEfOf k m) 2
+ef_field : (k : Kind) (m : ℕ) → IsMOf k m → IsField (ef_of k m) (to_le_bytes w16) (IsEfOf k m) 2
 unfolding ef_of
-ef_field Hnsw m = two_bytes_field (2 * m) 1000 (lit< tt)
-ef_field Ivf m = two_bytes_field 0 0 (lit< tt)
+ef_field Hnsw m p = two_bytes_field (2 * m) 1000 (omega (arith, p.1)) (lit< tt)
+ef_field Ivf m p = two_bytes_field 0 0 (lit≤ tt) (lit< tt)
 
 abbrev IsCountOf : Kind → ℕ → Type 0
 IsCountOf Hnsw lists = IsFrom 0 0 lists
@@ -100,8 +106,8 @@ IsCountOf Ivf lists = IsFrom 1 32768 lists
 
 lists_field : (k : Kind) → IsField (lists_of k) (to_le_bytes w32) (IsCountOf k) 4
 unfolding lists_of
-lists_field Hnsw = four_bytes_field 0 0 (lit< tt)
-lists_field Ivf = four_bytes_field 1 32768 (lit< tt)
+lists_field Hnsw = four_bytes_field 0 0 (lit≤ tt) (lit< tt)
+lists_field Ivf = four_bytes_field 1 32768 (lit≤ tt) (lit< tt)
 
 -- what the fields hold, kind by kind
 abbrev FieldsFit : Params → Type 0
@@ -132,7 +138,7 @@ pub params_field : IsField params params_bytes IsInRange 14
 unfolding params
 params_field =
     viewed_law _ _
-    (after_law kind_field (λ k _. then_law (ops_field k) (then_law (four_bytes_field 1 64000 (lit< tt)) (after_law (m_field k) (λ m _. then_law (ef_field k m) (lists_field k))))))
+    (after_law kind_field (λ k _. then_law (ops_field k) (then_law (four_bytes_field 1 64000 (lit≤ tt) (lit< tt)) (after_law (m_field k) (λ m p. then_law (ef_field k m p) (lists_field k))))))
     params_bytes IsInRange
     (λ p r.
     let f = range_fits p.kind p r.of_kind in
@@ -152,8 +158,8 @@ FitsLevel (Some at) level = IsFrom 0 255 level
 
 level_field : (e : Option Tid) → IsField (level_of e) one_byte (FitsLevel e) 1
 unfolding level_of
-level_field None = byte_field 0 0
-level_field (Some at) = byte_field 0 255
+level_field None = byte_field 0 0 (lit≤ tt)
+level_field (Some at) = byte_field 0 255 (lit≤ tt)
 
 level_fits : (e : Option Tid) (level : ℕ) → IsLevelOf e level → FitsLevel e level
 level_fits None level is = (omega arith, omega (arith, is))
@@ -169,8 +175,8 @@ FitsHint Ivf hint = IsFrom 0 0 hint
 
 hint_field : (k : Kind) → IsField (hint_of k) (to_le_bytes w32) (FitsHint k) 4
 unfolding hint_of
-hint_field Hnsw = four_bytes_field 1 32768 (lit< tt)
-hint_field Ivf = four_bytes_field 0 0 (lit< tt)
+hint_field Hnsw = four_bytes_field 1 32768 (lit≤ tt) (lit< tt)
+hint_field Ivf = four_bytes_field 0 0 (lit≤ tt) (lit< tt)
 
 hint_fits : (k : Kind) (hint : ℕ) → IsHintOf k hint → FitsHint k hint
 hint_fits Hnsw hint is = is
@@ -195,8 +201,8 @@ pub meta_field : IsField meta meta_bytes IsMeta 32
 unfolding meta meta_bytes
 meta_field =
     viewed_law _ _
-    (then_law (four_bytes_field magic magic (lit< tt)) (then_law (two_bytes_field 1 2 (lit< tt))
-    (after_law params_field (λ p _. after_law (entry_field p.kind) (λ e _. then_law (level_field e) (then_law (byte_field 0 0) (hint_field p.kind)))))))
+    (then_law (four_bytes_field magic magic (lit≤ tt) (lit< tt)) (then_law (two_bytes_field 1 2 (lit≤ tt) (lit< tt))
+    (after_law params_field (λ p _. after_law (entry_field p.kind) (λ e _. then_law (level_field e) (then_law (byte_field 0 0 (lit≤ tt)) (hint_field p.kind)))))))
     meta_bytes IsMeta
     (λ m r. (
       (magic, (m.format, (m.params, (m.entry, (m.level, (0, m.hint)))))),

@@ -20,7 +20,7 @@ unfolding entry entry_bytes
 entry_field p r =
     wider (6 + (2 + (8 + (p.bits + 7) / 8))) 8016 (omega (arith, r.bits_high))
     (viewed_law _ _
-    (then_law row_field (then_law (two_bytes_field 0 0 (lit< tt)) (bits_field p.bits r.bits_low r.bits_high)))
+    (then_law row_field (then_law (two_bytes_field 0 0 (lit≤ tt) (lit< tt)) (bits_field p.bits r.bits_low r.bits_high)))
     entry_bytes (IsEntry p)
     (λ row fits. ((row.id, (0, row.bits)), refl, (tt, ((lit≤ tt, lit≤ tt), fits)), zero_two 0 row.id (bits_bytes row.bits) (lit≤ tt, lit≤ tt)))
     (λ w f. (f.1.1, zero_two w.1.0 w.0 (bits_bytes w.1.1) f.1.0)))
@@ -36,7 +36,7 @@ unfolding centre centre_bytes
 centre_field p r =
     wider (4 + (4 + (4 + (8 + (p.bits + 7) / 8)))) 8020 (omega (arith, r.bits_high))
     (viewed_law _ _
-    (then_law (four_bytes_field 0 4294967295 (lit< tt)) (then_law (four_bytes_field 0 4294967295 (lit< tt)) (then_law (four_bytes_field 0 0 (lit< tt)) (bits_field p.bits r.bits_low r.bits_high))))
+    (then_law (four_bytes_field 0 4294967295 (lit≤ tt) (lit< tt)) (then_law (four_bytes_field 0 4294967295 (lit≤ tt) (lit< tt)) (then_law (four_bytes_field 0 0 (lit≤ tt) (lit< tt)) (bits_field p.bits r.bits_low r.bits_high))))
     centre_bytes (IsCentre p)
     (λ c fits.
     ((c.first, (c.aim, (0, c.bits))), refl, ((omega arith, omega (arith, fits.0)), ((omega arith, omega (arith, fits.1)), ((lit≤ tt, lit≤ tt), fits.2))), zero_four 0 c.first c.aim (bits_bytes c.bits) (lit≤ tt, lit≤ tt)))

@@ -1,7 +1,7 @@
 -- What a reading says of the tuples that the bytes spell as a whole.
-use Rattle.std.proofs.Common.{◌≡◌, ◌≢◌, ℕ, Bool, true, false, eqb, ◌+◌, ◌-◌, ◌<◌, ◌≤◌, List, [], ◌∷◌, ◌++◌, length, refl, sym, ap, ◌∙◌, arith}
+use Rattle.std.proofs.Common.{◌≡◌, ◌≢◌, ℕ, Bool, true, false, eqb, ◌+◌, ◌-◌, ◌<◌, ◌≤◌, List, [], ◌∷◌, ◌++◌, length, take, refl, sym, ap, ◌∙◌, arith}
 use Rattle.std.proofs.lemmas.Bool.{eqb-true}
-use Rattle.std.proofs.lemmas.List.{append-nil, length-append}
+use Rattle.std.proofs.lemmas.List.{append-nil, length-append, take_at}
 use Rattle.vec_tuples.specs.Reading.{Got, Bad, Reader, ◌>>=◌, ended, whole}
 use Rattle.vec_tuples.proofs.FieldLaws.{AreBytes, IsField, got_is, got_not_bad}
 
@@ -52,6 +52,12 @@ module _ {A : Type 0} {f : Reader A} {spell : A → List ℕ} {Fits : A → Type
         let back : length rest ≡ length bytes - (length bytes - length rest) = omega (arith, rest_shorter) in
         (omega arith, ap (λ r. r >>= λ v rest. ended v rest) is ∙ over v rest not_all ∙ ap (λ n. Bad n) back)
 
+    pub over_start : (w : A) × Fits w × (more : List ℕ) × (spell w ≡ take (length bytes - length rest) bytes ++ more)
+    over_start =
+        let t = law.takes bytes v rest bs is in
+        let size : length (spell v) ≡ length bytes - length rest = omega (arith, lengths) in
+        (v, t.1, [], sym (ap (λ (b : List ℕ). take (length bytes - length rest) b ++ []) t.0 ∙ append-nil _ ∙ take_at (spell v) rest (length bytes - length rest) size))
+
   module _ (bytes : List ℕ) (left : ℕ) (bs : AreBytes bytes) (is : f bytes ≡ Bad left) where
     pub bad_inside : left ≤ length bytes
     bad_inside = (law.near bytes left bs is).0
@@ -66,3 +72,6 @@ module _ {A : Type 0} {f : Reader A} {spell : A → List ℕ} {Fits : A → Type
     bad_exact =
         let back : left ≡ length bytes - (length bytes - left) = omega (arith, bad_inside) in
         (omega arith, ap (λ r. r >>= λ v rest. ended v rest) is ∙ ap (λ n. Bad n) back)
+
+    pub bad_start : (w : A) × Fits w × (more : List ℕ) × (spell w ≡ take (length bytes - left) bytes ++ more)
+    bad_start = law.alive bytes left bs is

@@ -1,5 +1,5 @@
 -- What a call answers, where reading gives this.
-use Rattle.std.specs.Prelude.{◌≡◌, ℕ, ◌≤◌, ◌-◌, List, [], length, Result, Ok, Err}
+use Rattle.std.specs.Prelude.{◌≡◌, ℕ, ◌≤◌, ◌-◌, List, [], ◌++◌, length, take, Result, Ok, Err}
 use Rattle.vec_tuples.specs.declared.refused.Refused.{Refused}
 use Rattle.vec_tuples.specs.declared.fault.TupleFault.{TupleFault}
 use Rattle.vec_tuples.specs.declared.fault.TupleFault.TheVariants as faults
@@ -21,3 +21,8 @@ IsReading f bytes (Err (faults.Bad at)) = (at ≤ length bytes) × (whole f byte
 abbrev pub IsFault : TupleFault → Type 0
 IsFault faults.Memory = ⊥
 IsFault (faults.Bad at) = Unit {0}
+
+-- some value has the bytes before the fault; of want of memory nothing is said
+abbrev pub BeginsSome : {A : Type 0} → (A → Type 0) → (A → List ℕ) → List ℕ → TupleFault → Type 0
+BeginsSome Fits spell bytes faults.Memory = Unit {0}
+BeginsSome Fits spell bytes (faults.Bad at) = (v : _) × Fits v × (more : List ℕ) × (spell v ≡ take at bytes ++ more)

@@ -6,7 +6,7 @@ ghost use Rattle.bit_code.specs.Places.{unpacked, Packed};
 ghost use Rattle.vec_names.specs.Params.{IsInRange};
 ghost use Rattle.vec_tuples.specs.Spelling.{centre_bytes, length_word, centre_with, IsCentre};
 ghost use Rattle.vec_tuples.specs.Reading.{centre};
-ghost use Rattle.vec_tuples.specs.Answers.{Gives, IsReading};
+ghost use Rattle.vec_tuples.specs.Answers.{Gives, IsReading, BeginsSome};
 ghost use Rattle.vec_tuples.specs.declared.centre.CentreTuple.{CentreTuple};
 
 use crate::bits::{bit_value, length_word};
@@ -46,6 +46,9 @@ pub fn read_centre(alloc: Global, bytes: &[u8], params: &Params) -> Result<Centr
 
     // The fault that it is, field by field.
     ensures exact { IsReading (centre params.now) bytes.now result }
+
+    // The bytes before it begin some tuple.
+    ensures start { IfErr result (BeginsSome (IsCentre params.now) centre_bytes bytes.now) }
 {
     match centre(*params, bytes) {
         Ok((first, aim, places, rest)) => {

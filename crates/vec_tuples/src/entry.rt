@@ -7,7 +7,7 @@ ghost use Rattle.vec_names.specs.Params.{IsInRange};
 ghost use Rattle.vec_names.specs.Pointer.{heap_id_bytes};
 ghost use Rattle.vec_tuples.specs.Spelling.{entry_bytes, length_word, row_with, IsEntry};
 ghost use Rattle.vec_tuples.specs.Reading.{entry};
-ghost use Rattle.vec_tuples.specs.Answers.{Gives, IsReading};
+ghost use Rattle.vec_tuples.specs.Answers.{Gives, IsReading, BeginsSome};
 ghost use Rattle.vec_tuples.specs.declared.entry.EntryRow.{EntryRow};
 
 use crate::bits::{bit_value, length_word};
@@ -45,6 +45,9 @@ pub fn read_entry(alloc: Global, bytes: &[u8], params: &Params) -> Result<EntryR
 
     // The fault that it is, field by field.
     ensures exact { IsReading (entry params.now) bytes.now result }
+
+    // The bytes before it begin some tuple.
+    ensures start { IfErr result (BeginsSome (IsEntry params.now) entry_bytes bytes.now) }
 {
     match entry(*params, bytes) {
         Ok((id, places, rest)) => {

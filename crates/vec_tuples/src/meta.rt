@@ -3,7 +3,7 @@
 ghost use Rattle.std.specs.Prelude.{◌≡◌, ◌++◌, length, OnOk, OnErr, IfOk, IfErr, MatchResult};
 ghost use Rattle.vec_tuples.specs.Spelling.{meta_bytes, kind_byte, ops_byte, IsMeta};
 ghost use Rattle.vec_tuples.specs.Reading.{entry_of, level_of, hint_of, meta};
-ghost use Rattle.vec_tuples.specs.Answers.{Gives, IsReading, IsFault};
+ghost use Rattle.vec_tuples.specs.Answers.{Gives, IsReading, BeginsSome, IsFault};
 ghost use Rattle.vec_tuples.specs.declared.meta.Meta.{Meta};
 
 use crate::fault::TupleFault;
@@ -44,6 +44,9 @@ pub fn read_meta(bytes: &[u8]) -> Result<Meta, TupleFault>
 
     // The fault that it is, field by field.
     ensures exact { IsReading meta bytes.now result }
+
+    // The bytes before it begin some tuple.
+    ensures start { IfErr result (BeginsSome IsMeta meta_bytes bytes.now) }
     ensures memory { IfErr result IsFault }
 {
     match meta_tuple(bytes) {

@@ -2,7 +2,7 @@ use Rattle.std.proofs.Common.{take, arith}
 use Rattle.bit_code.specs.Places.{unpacked}
 use Rattle.vec_tuples.specs.Spelling.{centre_with}
 use Rattle.vec_tuples.proofs.RowLaws.{centre_field}
-use Rattle.vec_tuples.proofs.Wholes.{none_left, some_left, rest_shorter, taken_small, got_spelled, got_read, over_read, over_exact, bad_inside, bad_near, bad_read, bad_exact}
+use Rattle.vec_tuples.proofs.Wholes.{none_left, some_left, rest_shorter, taken_small, got_spelled, got_read, over_read, over_exact, over_start, bad_inside, bad_near, bad_read, bad_exact, bad_start}
 use Rattle.vec_tuples.proofs.centre.read_centre.Goals as goal
 
 pub overflow_sub-result : goal.overflow_sub-result
@@ -34,3 +34,9 @@ returns-in-Err-clause-read c = λ w fits text. absurd (bad_read (centre_field c.
 
 pub returns-in-Err-clause-exact : goal.returns-in-Err-clause-exact
 returns-in-Err-clause-exact c = bad_exact (centre_field c.args.params.now c.requires) c.args.bytes.now c.in-Err.refused.left (λ i. omega (arith, c.type_inv.bytes i)) c.in-Err.ensures.reads
+
+pub returns-then-not-is_empty-clause-start : goal.returns-then-not-is_empty-clause-start
+returns-then-not-is_empty-clause-start c = over_start (centre_field c.args.params.now c.requires) c.args.bytes.now (centre_with c.in-Ok.first c.in-Ok.aim (take c.args.params.now.bits (unpacked c.in-Ok.places.now))) c.in-Ok.rest.now (λ i. omega (arith, c.type_inv.bytes i)) c.in-Ok.ensures.reads
+
+pub returns-in-Err-clause-start : goal.returns-in-Err-clause-start
+returns-in-Err-clause-start c = bad_start (centre_field c.args.params.now c.requires) c.args.bytes.now c.in-Err.refused.left (λ i. omega (arith, c.type_inv.bytes i)) c.in-Err.ensures.reads

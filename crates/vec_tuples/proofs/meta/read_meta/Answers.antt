@@ -1,6 +1,6 @@
 use Rattle.std.proofs.Common.{arith}
 use Rattle.vec_tuples.proofs.MetaLaws.{meta_field}
-use Rattle.vec_tuples.proofs.Wholes.{none_left, some_left, rest_shorter, taken_small, got_spelled, got_read, over_read, over_exact, bad_inside, bad_near, bad_read, bad_exact}
+use Rattle.vec_tuples.proofs.Wholes.{none_left, some_left, rest_shorter, taken_small, got_spelled, got_read, over_read, over_exact, over_start, bad_inside, bad_near, bad_read, bad_exact, bad_start}
 use Rattle.vec_tuples.proofs.meta.read_meta.Goals as goal
 
 pub overflow_sub-result : goal.overflow_sub-result
@@ -32,3 +32,9 @@ returns-in-Err-clause-read c = bad_read meta_field c.args.bytes.now c.in-Err.ref
 
 pub returns-in-Err-clause-exact : goal.returns-in-Err-clause-exact
 returns-in-Err-clause-exact c = bad_exact meta_field c.args.bytes.now c.in-Err.refused.left (λ i. omega (arith, c.type_inv.bytes i)) c.in-Err.ensures
+
+pub returns-else-is_empty-clause-start : goal.returns-else-is_empty-clause-start
+returns-else-is_empty-clause-start c = over_start meta_field c.args.bytes.now c.in-Ok.meta c.in-Ok.rest.now (λ i. omega (arith, c.type_inv.bytes i)) c.in-Ok.ensures
+
+pub returns-in-Err-clause-start : goal.returns-in-Err-clause-start
+returns-in-Err-clause-start c = bad_start meta_field c.args.bytes.now c.in-Err.refused.left (λ i. omega (arith, c.type_inv.bytes i)) c.in-Err.ensures
