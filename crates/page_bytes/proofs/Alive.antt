@@ -1,13 +1,13 @@
 -- Every front of bytes that may stand on a page is the front of a whole one.
-use Rattle.std.proofs.Common.{◌≡◌, ℕ, zero, suc, ◌+◌, ◌-◌, ◌*◌, ◌/◌, ◌%◌, ◌^◌, ◌<◌, ◌≤◌, ◌⊎◌, inl, inr, Bool, true, false, cond, nat_eq, List, [], ◌∷◌, ◌++◌, length, refl, sym, ap, ◌∙◌, subst, arith, rules}
+use Rattle.std.proofs.Common.{◌≡◌, ℕ, zero, suc, ◌+◌, ◌-◌, ◌*◌, ◌/◌, ◌%◌, ◌^◌, ◌<◌, ◌≤◌, ◌⊎◌, inl, inr, Bool, true, false, cond, nat_eq, List, [], ◌∷◌, refl, arith}
 use Rattle.std.proofs.lemmas.Bool.Decides.{nat_tests}
 use Rattle.std.proofs.lemmas.Bool.{cases_eq}
 use Rattle.page_bytes.specs.Content.{round8}
 use Rattle.page_bytes.specs.Spelling.{zeros}
-use Rattle.page_bytes.specs.Format.{Format, free, fixed, half, kinds, ending, stack, pointer, pointers, behind_upper, least_upper, most_upper, behind_lower, page, InHalf, InPointer, Allows, Room}
-use Rattle.page_bytes.specs.Format.Format.{Done, Byte}
+use Rattle.page_bytes.specs.Format.{fixed, half, kinds, ending, stack, pointers, behind_upper, least_upper, most_upper, behind_lower, page, InHalf, InPointer, Allows, Room}
+use Rattle.page_bytes.specs.Format.Format.{Done}
 use Rattle.page_bytes.proofs.Formats.{Live}
-use Rattle.page_bytes.proofs.Parts.{Steps, by_1, by_4, by_8, free_live, fixed_live, half_live, pointer_live}
+use Rattle.page_bytes.proofs.Parts.{by_1, by_4, by_8, free_live, fixed_live, half_live, pointer_live}
 
 live_done : Live Done
 unfolding Live

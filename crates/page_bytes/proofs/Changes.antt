@@ -1,17 +1,17 @@
 -- What each change of the bytes does to what they spell.
-use Rattle.std.proofs.Common.{◌≡◌, ℕ, zero, suc, ◌+◌, ◌-◌, ◌*◌, ◌/◌, ◌%◌, ◌^◌, ◌<◌, ◌≤◌, List, [], ◌∷◌, ◌++◌, Option, Some, None, IfSome, IsSomeAnd, unwrap_or, slice_get, set, length, get_or, take, drop, replicate, refl, sym, ap, ◌∙◌, subst, arith, rules, append_assoc}
+use Rattle.std.proofs.Common.{◌≡◌, ℕ, zero, suc, ◌+◌, ◌-◌, ◌*◌, ◌%◌, ◌^◌, ◌<◌, ◌≤◌, List, [], ◌∷◌, ◌++◌, Option, Some, None, IfSome, IsSomeAnd, unwrap_or, slice_get, set, length, get_or, take, drop, refl, sym, ap, ◌∙◌, subst, arith, rules, append_assoc}
 use Rattle.std.specs.Int.{w16, w32, w64, to_le_bytes}
 use Rattle.std.specs.List.{All}
-use Rattle.std.proofs.lemmas.List.{get_or_default, set-get_or, set_split, get_or_append_left, get_or-append-add, append-nil, take_at, drop_at, drop-drop, length-append, length-replicate, take-append-drop, replicate-append-replicate}
+use Rattle.std.proofs.lemmas.List.{get_or_default, set-get_or, set_split, get_or_append_left, get_or-append-add, append-nil, length-append, length-replicate, replicate-append-replicate}
 use Rattle.std.proofs.lemmas.List.Elements.{All-append, All-cons, All-tail, All-push}
 use Rattle.page_bytes.specs.Content.{Content, IsPage, IsItem, IsNext, round8, taken, lower_of, upper_of, item_at}
 use Rattle.page_bytes.specs.Spelling.{zeros, header, line_pointer, line_pointers, padded, stacked, special, spelling, next_word, kind_word}
-use Rattle.page_bytes.specs.Decoding.{half_at, word_at, long_at, named_by, items_at, next_from, kind_from, content, Spells, IsSpelled}
+use Rattle.page_bytes.specs.Decoding.{word_at, content, Spells, IsSpelled}
 use Rattle.page_bytes.specs.Splice.{spliced, with_item}
 use Rattle.page_bytes.specs.declared.kind.PageKind.{PageKind}
 use Rattle.page_bytes.specs.declared.kind.PageKind.TheVariants.{Meta, Hnsw, IvfLists, IvfEntries}
 use Rattle.page_bytes.proofs.Numbers.{spliced_at}
-use Rattle.page_bytes.proofs.Placing.{line_pointers-cons, line_pointers-append, length-line_pointer, Rounds, rounds, taken-nil, taken-cons, taken-append, stacked-cons, stacked-append, length-line_pointers, length-stacked, Lies, items_at-lies, Points}
+use Rattle.page_bytes.proofs.Placing.{line_pointers-cons, line_pointers-append, length-line_pointer, rounds, taken-nil, taken-cons, taken-append, stacked-cons, stacked-append, length-line_pointers, length-stacked}
 use Rattle.page_bytes.proofs.Whole.{length-header, header_of, front, spelling-front, length-front, item_points}
 
 pub zeros-add : (m n : ℕ) → zeros (m + n) ≡ zeros m ++ zeros n

@@ -1,23 +1,23 @@
 -- What a drop does to the bytes of a page.
-use Rattle.std.proofs.Common.{◌≡◌, ℕ, zero, suc, ◌+◌, ◌-◌, ◌*◌, ◌/◌, ◌%◌, ◌^◌, ◌<◌, ◌≤◌, ◌⊎◌, inl, inr, Bool, true, false, cond, nat_eq, nat_lt, List, [], ◌∷◌, ◌++◌, Option, Some, None, slice_index, length, get_or, take, drop, replicate, refl, sym, ap, ◌∙◌, subst, below_more, arith, rules, append_assoc}
-use Rattle.std.specs.Int.{w16, w32, w64, to_le_bytes}
+use Rattle.std.proofs.Common.{◌≡◌, ℕ, zero, suc, ◌+◌, ◌-◌, ◌*◌, ◌/◌, ◌%◌, ◌^◌, ◌<◌, ◌≤◌, ◌⊎◌, inl, inr, true, false, nat_eq, List, [], ◌∷◌, ◌++◌, slice_index, length, get_or, take, drop, refl, sym, ap, ◌∙◌, subst, below_more, arith, rules, append_assoc}
+use Rattle.std.specs.Int.{w16, to_le_bytes}
 use Rattle.std.specs.List.{All, list_any, copy_within}
 use Rattle.std.specs.List.Sorted.{IsStrictlyIncreasing}
 use Rattle.std.proofs.Math.Seq.{take-append-add, drop-append-add}
 use Rattle.std.proofs.lemmas.Bool.{cases_lt, cases_eq, false≢true}
 use Rattle.std.proofs.lemmas.Bool.Decides.{nat_tests}
-use Rattle.std.proofs.lemmas.List.{get_or_default, take-append-le, length-take-le, length-drop, drop_more, append-nil, take_at, drop_at, drop-drop, length-append, length-replicate, take-append-drop, replicate-append-replicate}
-use Rattle.std.proofs.lemmas.List.Elements.{All-append, All-cons, All-tail, All-push}
+use Rattle.std.proofs.lemmas.List.{get_or_default, take-append-le, length-take-le, length-drop, drop_more, append-nil, take_at, drop_at, drop-drop, length-append, length-replicate, take-append-drop}
+use Rattle.std.proofs.lemmas.List.Elements.{All-push}
 use Rattle.std.proofs.lemmas.List.Folds.{list_any_none, list_any_at}
 use Rattle.page_bytes.specs.Content.{Content, IsPage, IsItem, round8, taken, lower_of, upper_of, others}
 use Rattle.page_bytes.specs.Spelling.{zeros, header, line_pointer, line_pointers, padded, stacked, special, spelling}
-use Rattle.page_bytes.specs.Decoding.{half_at, word_at, content, Spells, IsSpelled}
+use Rattle.page_bytes.specs.Decoding.{word_at, Spells}
 use Rattle.page_bytes.specs.Splice.{spliced}
 use Rattle.page_bytes.specs.Dropping.{Gathers, Meets}
 use Rattle.page_bytes.proofs.Numbers.{spliced_at}
-use Rattle.page_bytes.proofs.Placing.{Rounds, rounds, taken-nil, taken-cons, taken-append, length-line_pointer, line_pointers-cons, line_pointers-append, length-line_pointers, length-padded, stacked-cons, stacked-append, length-stacked, Lies, Points, lies_points}
+use Rattle.page_bytes.proofs.Placing.{taken-nil, taken-cons, taken-append, length-line_pointer, line_pointers-cons, line_pointers-append, length-line_pointers, length-padded, stacked-cons, stacked-append, length-stacked, Lies, Points, lies_points}
 use Rattle.page_bytes.proofs.Whole.{length-header}
-use Rattle.page_bytes.proofs.Changes.{zeros-add, spelling-from, line_pointers-nil, line_pointers-one, stacked-nil, stacked-one, taken-one, spliced-lower, spliced-upper}
+use Rattle.page_bytes.proofs.Changes.{zeros-add, spelling-from, line_pointers-one, stacked-one, taken-one, spliced-lower, spliced-upper}
 
 -- ---- which offsets go
 

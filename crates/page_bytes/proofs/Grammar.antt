@@ -1,25 +1,24 @@
 -- The format of pages and the spelling of pages are the same bytes.
-use Rattle.std.proofs.Common.{◌≡◌, ℕ, zero, suc, ◌+◌, ◌-◌, ◌*◌, ◌/◌, ◌%◌, ◌^◌, ◌<◌, ◌≤◌, ◌⊎◌, inl, inr, Bool, true, false, cond, nat_eq, List, [], ◌∷◌, ◌++◌, Option, Some, None, length, get_or, map, reverse, refl, sym, ap, ◌∙◌, subst, arith, rules, append_assoc}
+use Rattle.std.proofs.Common.{◌≡◌, ℕ, zero, suc, ◌+◌, ◌-◌, ◌*◌, ◌/◌, ◌^◌, ◌<◌, ◌≤◌, inl, inr, Bool, cond, nat_eq, List, [], ◌∷◌, ◌++◌, Option, Some, None, length, get_or, map, reverse, refl, sym, ap, ◌∙◌, subst, arith, append_assoc}
 use mathlib.Core.List.{reverse_aux}
 use Rattle.std.specs.Int.{w16, w32, w64, to_le_bytes, from_le_bytes}
 use Rattle.std.specs.List.{All}
 use Rattle.std.proofs.lemmas.Bool.{cases_lt, cases_eq, eq-eqb, ne_eqb}
-use Rattle.std.proofs.lemmas.Bool.Decides.{nat_tests}
-use Rattle.std.proofs.lemmas.List.{get_or-map, get_or_past, append-nil, length-append, length-map, length-reverse, map-append, reverse-append, reverse-reverse, length-replicate}
-use Rattle.std.proofs.lemmas.List.Elements.{All-nil, All-cons, All-head, All-tail, All-push, All-get_or}
+use Rattle.std.proofs.lemmas.List.{get_or-map, get_or_past, length-map, map-append, reverse-append, reverse-reverse}
+use Rattle.std.proofs.lemmas.List.Elements.{All-nil, All-cons, All-push}
 use Rattle.std.proofs.lemmas.Nat.{le_bytes_8}
-use Rattle.page_bytes.specs.Content.{Content, IsPage, IsItem, IsNext, round8, taken, lower_of, upper_of}
+use Rattle.page_bytes.specs.Content.{Content, IsItem, IsNext, round8, taken, lower_of, upper_of}
 use Rattle.page_bytes.specs.Spelling.{zeros, header, line_pointer, line_pointers, padded, stacked, special, spelling, next_word, kind_word}
-use Rattle.page_bytes.specs.Decoding.{next_from, kind_from, Spells}
+use Rattle.page_bytes.specs.Decoding.{kind_from, Spells}
 use Rattle.page_bytes.specs.declared.kind.PageKind.{PageKind}
-use Rattle.page_bytes.specs.declared.kind.PageKind.TheVariants.{Meta, Hnsw, IvfLists, IvfEntries}
-use Rattle.page_bytes.specs.Format.{Format, free, fixed, half, pointer, kinds, ending, stack, pointers, behind_upper, least_upper, most_upper, behind_lower, page, room_of, InHalf, InPointer, Allows, Room}
-use Rattle.page_bytes.specs.Format.Format.{Done, Byte}
-use Rattle.page_bytes.proofs.Placing.{Rounds, rounds, taken-nil, taken-cons, taken-append, taken-whole, line_pointers-cons, length-padded, stacked-cons, stacked-append, length-stacked}
-use Rattle.page_bytes.proofs.Changes.{stacked-nil, stacked-one, line_pointers-nil, spelling-from}
+use Rattle.page_bytes.specs.declared.kind.PageKind.TheVariants.{IvfEntries}
+use Rattle.page_bytes.specs.Format.{Format, fixed, half, kinds, ending, stack, pointers, behind_upper, least_upper, most_upper, behind_lower, page, room_of, InHalf, Room}
+use Rattle.page_bytes.specs.Format.Format.{Done}
+use Rattle.page_bytes.proofs.Placing.{stacked-append}
+use Rattle.page_bytes.proofs.Changes.{stacked-nil, stacked-one, spelling-from}
 use Rattle.page_bytes.proofs.Formats.{Matches}
-use Rattle.page_bytes.proofs.Parts.{by_1, by_4, by_8, Free, Half, Pointer, free_matched, free_match, fixed_matched, fixed_match, half_matched, half_match, pointer_matched, pointer_match, four}
-use Rattle.page_bytes.proofs.Alive.{room_allows, room_after, Uppers, uppers, first_room}
+use Rattle.page_bytes.proofs.Parts.{free_matched, fixed_matched, half_matched, pointer_matched, four}
+use Rattle.page_bytes.proofs.Alive.{room_allows, room_after, first_room}
 
 -- ---- line pointers by lengths
 

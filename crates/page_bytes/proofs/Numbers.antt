@@ -1,7 +1,7 @@
 -- Numbers within bytes, and a part written over a part.
-use Rattle.std.proofs.Common.{◌≡◌, ℕ, zero, suc, ◌+◌, ◌-◌, ◌*◌, ◌/◌, ◌%◌, ◌^◌, ◌<◌, ◌≤◌, List, [], ◌∷◌, ◌++◌, length, get_or, take, drop, refl, sym, ap, ◌∙◌, arith, append_assoc}
+use Rattle.std.proofs.Common.{◌≡◌, ℕ, ◌+◌, ◌^◌, ◌<◌, ◌≤◌, List, ◌++◌, length, get_or, drop, refl, sym, ap, ◌∙◌, arith, append_assoc}
 use Rattle.std.specs.Int.{w16, w32, w64, to_le_bytes}
-use Rattle.std.proofs.lemmas.List.{take_at, drop_at, length-append, length-drop, length-take, get_or-append_right, get_or-append-add, get_or-drop, take-append-drop}
+use Rattle.std.proofs.lemmas.List.{take_at, drop_at, length-append, length-drop, length-take, get_or-append-add, get_or-drop}
 use Rattle.page_bytes.specs.Decoding.{half_at, word_at, long_at}
 use Rattle.page_bytes.specs.Splice.{spliced}
 

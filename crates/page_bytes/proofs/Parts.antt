@@ -1,18 +1,17 @@
 -- The parts of a format: free bytes, fixed bytes and half words within bounds.
-use Rattle.std.proofs.Common.{◌≡◌, ℕ, zero, suc, ◌+◌, ◌-◌, ◌*◌, ◌/◌, ◌%◌, ◌^◌, ◌<◌, ◌≤◌, ◌⊎◌, inl, inr, Bool, true, false, cond, nat_eq, nat_lt, nat_le, ◌&&◌, List, [], ◌∷◌, ◌++◌, length, get_or, take, drop, refl, sym, ap, ◌∙◌, subst, arith, rules}
+use Rattle.std.proofs.Common.{◌≡◌, ℕ, zero, suc, ◌+◌, ◌-◌, ◌*◌, ◌/◌, ◌%◌, ◌^◌, ◌<◌, ◌≤◌, Bool, true, false, nat_eq, nat_lt, nat_le, ◌&&◌, List, [], ◌∷◌, ◌++◌, length, get_or, drop, refl, sym, ap, ◌∙◌, subst, arith}
 use Rattle.std.specs.Int.{w16, to_le_bytes}
 use Rattle.std.specs.List.{All}
 use Rattle.std.proofs.Math.Nat.{add-mul-mod_self_left}
 use Rattle.std.proofs.lemmas.Bool.{false≢true, eq-eqb, eqb-true, ltb-true, lt-ltb, leb-true, le-leb, false_from_ne_true}
-use Rattle.std.proofs.lemmas.Bool.Decides.{nat_tests}
 use Rattle.std.proofs.lemmas.Nat.{div-add-mod'}
 use Rattle.std.proofs.lemmas.List.Elements.{All-nil, All-cons, All-head, All-tail}
 use Rattle.page_bytes.specs.Content.{round8}
-use Rattle.page_bytes.specs.Spelling.{zeros, line_pointer}
-use Rattle.page_bytes.specs.Format.{Format, first_bad, bad_place, free, fixed, begins_half, is_half, half, pointer, InHalf, InPointer, Allows}
-use Rattle.page_bytes.specs.Format.Format.{Done, Byte}
-use Rattle.page_bytes.proofs.Placing.{Rounds, rounds}
-use Rattle.page_bytes.proofs.Formats.{Matches, Live, either, passes, stops}
+use Rattle.page_bytes.specs.Spelling.{line_pointer}
+use Rattle.page_bytes.specs.Format.{Format, first_bad, free, fixed, begins_half, is_half, half, pointer, InHalf, InPointer, Allows}
+use Rattle.page_bytes.specs.Format.Format.{Byte}
+use Rattle.page_bytes.proofs.Placing.{rounds}
+use Rattle.page_bytes.proofs.Formats.{Matches, Live, passes, stops}
 
 -- ---- free bytes
 

@@ -1,11 +1,9 @@
 -- Where the parts of a page lie.
-use Rattle.std.proofs.Common.{◌≡◌, ℕ, zero, suc, ◌+◌, ◌-◌, ◌*◌, ◌/◌, ◌%◌, ◌^◌, ◌<◌, ◌≤◌, List, [], ◌∷◌, ◌++◌, Some, slice_get, length, get_or, take, drop, replicate, refl, sym, ap, ◌∙◌, arith, append_assoc}
-use Rattle.std.specs.Int.{w16, w32, w64, to_le_bytes}
-use Rattle.std.specs.List.{sum_by}
-use Rattle.std.proofs.lemmas.List.{append-nil, take_at, drop_at, drop-drop, length-append, length-replicate, take-append-drop}
-use Rattle.page_bytes.specs.Content.{Content, round8, taken}
+use Rattle.std.proofs.Common.{◌≡◌, ℕ, zero, suc, ◌+◌, ◌-◌, ◌*◌, ◌/◌, ◌%◌, ◌^◌, ◌<◌, ◌≤◌, List, [], ◌∷◌, ◌++◌, Some, slice_get, length, get_or, take, drop, refl, sym, ap, ◌∙◌, arith, append_assoc}
+use Rattle.std.proofs.lemmas.List.{append-nil, take_at, drop_at, drop-drop, length-append, length-replicate}
+use Rattle.page_bytes.specs.Content.{round8, taken}
 use Rattle.page_bytes.specs.Spelling.{zeros, line_pointer, line_pointers, padded, stacked}
-use Rattle.page_bytes.specs.Decoding.{half_at, word_at, long_at, named_by, items_at}
+use Rattle.page_bytes.specs.Decoding.{word_at, named_by, items_at}
 use Rattle.page_bytes.proofs.Numbers.{word_at-drop, word_at-bytes}
 
 -- ---- sizes

@@ -1,15 +1,15 @@
 -- What each reader of a part finds, in terms of the first bad place.
-use Rattle.std.proofs.Common.{◌≡◌, ◌≢◌, ℕ, zero, suc, ◌+◌, ◌-◌, ◌*◌, ◌/◌, ◌%◌, ◌^◌, ◌<◌, ◌≤◌, ◌⊎◌, inl, inr, Bool, true, false, cond, nat_eq, List, [], ◌∷◌, ◌++◌, Ok, Err, length, get_or, take, drop, replicate, refl, sym, ap, ◌∙◌, subst, arith, rules}
+use Rattle.std.proofs.Common.{◌≡◌, ℕ, zero, suc, ◌+◌, ◌-◌, ◌*◌, ◌/◌, ◌^◌, ◌<◌, ◌≤◌, inl, inr, Bool, true, false, cond, nat_eq, List, [], ◌∷◌, Ok, Err, length, get_or, drop, refl, sym, ap, ◌∙◌, subst, arith}
 use Rattle.std.proofs.lemmas.Bool.{false≢true, cases_lt, cases_eq, eq-eqb, ne_eqb}
 use Rattle.std.proofs.lemmas.List.{length-drop, drop_more, drop-drop, get_or-drop, drop_all}
 use Rattle.page_bytes.specs.Content.{round8}
 use Rattle.page_bytes.specs.Spelling.{zeros}
 use Rattle.page_bytes.specs.Decoding.{half_at, word_at, long_at}
-use Rattle.page_bytes.specs.Format.{Format, first_bad, bad_place, free, fixed, begins_half, is_half, half, pointer, kinds, ending, stack, pointers, behind_upper, behind_lower, page, InHalf, InPointer, Allows, Room, lens_at, room_of, FindsHalf, FindsPlace, Passes, PassesPointers}
-use Rattle.page_bytes.specs.Format.Format.{Done, Byte}
+use Rattle.page_bytes.specs.Format.{Format, first_bad, bad_place, fixed, begins_half, is_half, half, pointer, kinds, ending, stack, pointers, behind_lower, page, InHalf, InPointer, Allows, Room, lens_at, room_of, FindsHalf, FindsPlace}
+use Rattle.page_bytes.specs.Format.Format.{Done}
 use Rattle.page_bytes.proofs.Formats.{passes, stops}
 use Rattle.page_bytes.proofs.Alive.{room_allows, room_after}
-use Rattle.page_bytes.proofs.Parts.{Steps, by_1, Begins, in_pointer, is_half-true, is_half-from, begins-true, begins-from, half_passes, half_stops_first, half_stops_second, free_passes}
+use Rattle.page_bytes.proofs.Parts.{Steps, by_1, in_pointer, is_half-from, begins-true, begins-from, half_passes, half_stops_first, half_stops_second, free_passes}
 
 -- the bytes from a place on
 one_at : (bytes : List ℕ) (at : ℕ) → at < length bytes → drop at bytes ≡ get_or bytes at 0 ∷ drop (at + 1) bytes

@@ -1,17 +1,17 @@
 -- Each spelling of a page has the format of pages.
-use Rattle.std.proofs.Common.{◌≡◌, ℕ, zero, suc, ◌+◌, ◌-◌, ◌*◌, ◌/◌, ◌%◌, ◌^◌, ◌<◌, ◌≤◌, ◌⊎◌, inl, inr, Bool, true, false, cond, nat_eq, List, [], ◌∷◌, ◌++◌, Option, Some, None, length, map, reverse, refl, sym, ap, ◌∙◌, subst, arith, rules, append_assoc}
+use Rattle.std.proofs.Common.{◌≡◌, ℕ, zero, suc, ◌+◌, ◌-◌, ◌*◌, ◌/◌, ◌%◌, ◌^◌, ◌<◌, ◌≤◌, inl, inr, cond, nat_eq, List, [], ◌∷◌, ◌++◌, Option, Some, None, length, map, refl, sym, ap, ◌∙◌, subst, arith, append_assoc}
 use mathlib.Core.List.{reverse_aux}
 use Rattle.std.specs.Int.{w16, w32, w64, byte_at, bytes_low_first, to_le_bytes}
 use Rattle.std.specs.List.{All}
 use Rattle.std.proofs.lemmas.List.{nil_from_length}
 use Rattle.std.proofs.lemmas.List.Elements.{All-nil, All-cons, All-head, All-tail}
 use Rattle.page_bytes.specs.Content.{Content, IsPage, IsItem, IsNext, round8, taken, lower_of, upper_of}
-use Rattle.page_bytes.specs.Spelling.{zeros, header, line_pointer, line_pointers, padded, stacked, special, spelling, next_word, kind_word}
+use Rattle.page_bytes.specs.Spelling.{zeros, line_pointers, padded, stacked, special, spelling, next_word, kind_word}
 use Rattle.page_bytes.specs.declared.kind.PageKind.{PageKind}
 use Rattle.page_bytes.specs.declared.kind.PageKind.TheVariants.{Meta, Hnsw, IvfLists, IvfEntries}
-use Rattle.page_bytes.specs.Format.{Format, free, fixed, half, pointer, kinds, ending, stack, pointers, behind_upper, least_upper, most_upper, behind_lower, page, InHalf, InPointer, Allows, Room}
-use Rattle.page_bytes.specs.Format.Format.{Done, Byte}
-use Rattle.page_bytes.proofs.Placing.{Rounds, rounds, taken-nil, taken-cons, taken-whole, line_pointers-first, stacked-cons}
+use Rattle.page_bytes.specs.Format.{Format, free, fixed, half, pointer, kinds, ending, stack, pointers, behind_upper, least_upper, most_upper, behind_lower, page, InHalf, InPointer, Room}
+use Rattle.page_bytes.specs.Format.Format.{Done}
+use Rattle.page_bytes.proofs.Placing.{rounds, taken-nil, taken-cons, taken-whole, line_pointers-first, stacked-cons}
 use Rattle.page_bytes.proofs.Changes.{stacked-nil, line_pointers-nil}
 use Rattle.page_bytes.proofs.Formats.{Matches}
 use Rattle.page_bytes.proofs.Parts.{by_1, by_4, by_8, free_match, fixed_match, half_match, pointer_match}

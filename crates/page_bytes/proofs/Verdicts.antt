@@ -1,9 +1,9 @@
 -- What the first bad place says of pages.
-use Rattle.std.proofs.Common.{◌≡◌, ℕ, zero, suc, ◌+◌, ◌-◌, ◌*◌, ◌<◌, ◌≤◌, ◌⊎◌, inl, inr, List, [], ◌∷◌, ◌++◌, length, min, take, drop, replicate, refl, sym, ap, ◌∙◌, subst, arith, append_assoc}
-use Rattle.std.proofs.lemmas.Bool.{cases_lt, cases_eq}
-use Rattle.std.proofs.lemmas.List.{append-nil, take_all, take_at, take-take, take-append-drop, take-append-le, drop-append-le, length-append, length-take, length-take-le, length-drop, length-replicate, nil_from_length}
-use Rattle.page_bytes.specs.Content.{Content, IsPage}
-use Rattle.page_bytes.specs.Spelling.{zeros, spelling}
+use Rattle.std.proofs.Common.{◌≡◌, ℕ, suc, ◌+◌, ◌<◌, ◌≤◌, inl, inr, List, ◌++◌, length, min, take, drop, sym, ap, ◌∙◌, subst, arith, append_assoc}
+use Rattle.std.proofs.lemmas.Bool.{cases_lt}
+use Rattle.std.proofs.lemmas.List.{append-nil, take_all, take_at, take-take, take-append-drop, length-append, length-take-le, nil_from_length}
+use Rattle.page_bytes.specs.Content.{Content}
+use Rattle.page_bytes.specs.Spelling.{spelling}
 use Rattle.page_bytes.specs.Decoding.{Spells}
 use Rattle.page_bytes.specs.Splice.{spliced}
 use Rattle.page_bytes.specs.Faults.{BeginsPage, IsFirstFault}

@@ -1,14 +1,14 @@
 -- A spelling shows the content that it spells.
-use Rattle.std.proofs.Common.{◌≡◌, ℕ, zero, suc, ◌+◌, ◌-◌, ◌*◌, ◌/◌, ◌%◌, ◌^◌, ◌<◌, ◌≤◌, List, [], ◌∷◌, ◌++◌, Option, Some, None, slice_get, length, get_or, take, drop, replicate, refl, sym, ap, ◌∙◌, subst, arith, append_assoc}
-use Rattle.std.specs.Int.{w16, w32, w64, to_le_bytes}
-use Rattle.std.proofs.lemmas.List.{append-nil, take_at, drop_at, drop-drop, length-append, length-replicate, take-append-drop}
-use Rattle.page_bytes.specs.Content.{Content, IsPage, IsNext, round8, taken, lower_of, upper_of, item_at}
-use Rattle.page_bytes.specs.Spelling.{zeros, header, line_pointer, line_pointers, padded, stacked, special, spelling, next_word, kind_word}
+use Rattle.std.proofs.Common.{◌≡◌, ℕ, zero, suc, ◌+◌, ◌-◌, ◌*◌, ◌/◌, ◌%◌, ◌^◌, ◌<◌, ◌≤◌, List, [], ◌∷◌, ◌++◌, Option, Some, None, slice_get, length, get_or, refl, sym, ap, ◌∙◌, subst, arith, append_assoc}
+use Rattle.std.specs.Int.{w16, w32, to_le_bytes}
+use Rattle.std.proofs.lemmas.List.{drop_at, length-append, length-replicate}
+use Rattle.page_bytes.specs.Content.{Content, IsPage, IsNext, taken, lower_of, upper_of, item_at}
+use Rattle.page_bytes.specs.Spelling.{zeros, header, line_pointers, stacked, special, spelling, next_word, kind_word}
 use Rattle.page_bytes.specs.Decoding.{half_at, word_at, long_at, named_by, items_at, next_from, kind_from, content, Spells, IsSpelled}
 use Rattle.page_bytes.specs.declared.kind.PageKind.{PageKind}
 use Rattle.page_bytes.specs.declared.kind.PageKind.TheVariants.{Meta, Hnsw, IvfLists, IvfEntries}
 use Rattle.page_bytes.proofs.Numbers.{half_at-append, word_at-append, half_at-bytes, word_at-bytes, long_at-bytes}
-use Rattle.page_bytes.proofs.Placing.{Rounds, rounds, length-line_pointers, length-stacked, Lies, items_at-lies, Points, points}
+use Rattle.page_bytes.proofs.Placing.{rounds, length-line_pointers, length-stacked, Lies, items_at-lies, Points, points}
 
 pub length-header : (number lower upper : ℕ) → length (header number lower upper) ≡ 24
 unfolding header

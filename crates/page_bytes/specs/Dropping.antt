@@ -1,5 +1,5 @@
 -- The bytes of a page in the midst of a drop.
-use Rattle.std.specs.Prelude.{◌≡◌, ℕ, ◌+◌, ◌-◌, ◌*◌, ◌<◌, ◌≤◌, List, [], ◌∷◌, ◌++◌, length, drop, All, slice_index}
+use Rattle.std.specs.Prelude.{◌≡◌, ℕ, ◌+◌, ◌-◌, ◌*◌, ◌<◌, ◌≤◌, List, ◌++◌, length, All, slice_index}
 use Rattle.page_bytes.specs.Content.{Content, IsItem, taken, others, lower_of, upper_of}
 use Rattle.page_bytes.specs.Spelling.{zeros, header, line_pointers, stacked, special}
 

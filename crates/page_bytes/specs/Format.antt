@@ -1,5 +1,5 @@
 -- A page's bytes from left to right: which byte may stand at each place, after the ones before it.
-use Rattle.std.specs.Prelude.{◌≡◌, ◌<◌, ◌≤◌, Result, Ok, Err, ℕ, zero, suc, ◌+◌, ◌-◌, ◌*◌, ◌/◌, ◌%◌, ◌^◌, Bool, true, ◌&&◌, ◌==◌, nat_lt, nat_le, List, [], ◌∷◌, drop, if◌then◌else◌}
+use Rattle.std.specs.Prelude.{◌≡◌, ◌<◌, ◌≤◌, Result, Ok, Err, ℕ, zero, suc, ◌+◌, ◌-◌, ◌*◌, ◌/◌, ◌%◌, ◌^◌, Bool, ◌&&◌, ◌==◌, nat_lt, nat_le, List, [], ◌∷◌, drop, if◌then◌else◌}
 use Rattle.page_bytes.specs.Content.{round8}
 use Rattle.page_bytes.specs.Spelling.{zeros}
 use Rattle.page_bytes.specs.Decoding.{half_at, word_at}

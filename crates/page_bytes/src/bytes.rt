@@ -6,6 +6,18 @@ ghost use Rattle.page_bytes.specs.Decoding.{half_at, word_at, long_at, named_by}
 ghost use Rattle.page_bytes.specs.Spelling.{line_pointer};
 ghost use Rattle.page_bytes.specs.Splice.{spliced};
 
+/// How many bytes a page has.
+pub const SIZE: usize = 8192;
+
+/// The places of `pd_lower`, `pd_upper`, the next block and the kind. The special space begins with the next block.
+pub const LOWER: usize = 12;
+
+pub const UPPER: usize = 14;
+
+pub const NEXT: usize = 8184;
+
+pub const KIND: usize = 8190;
+
 #[tactic(auto, unfolding(crate::specs::Decoding::half_at))]
 pub fn half(bytes: &[u8], at: usize) -> u16
     requires { at + 2 ≤ length bytes.now }

@@ -9,7 +9,7 @@ ghost use Rattle.page_bytes.specs.Dropping.{Gathers, Meets};
 ghost use Rattle.page_bytes.specs.Spelling.{zeros, line_pointer};
 ghost use Rattle.page_bytes.specs.Splice.{spliced};
 
-use crate::bytes::{half, put, put_pointer, rounded, word};
+use crate::bytes::{LOWER, UPPER, half, put, put_pointer, rounded, word};
 
 /// Drops the items at rising offsets.
 pub fn drop_from(bytes: &mut [u8], gone: &[u16])
@@ -20,13 +20,13 @@ pub fn drop_from(bytes: &mut [u8], gone: &[u16])
     ensures { let p = content bytes.old in
         Spells bytes.new (record p { items = others gone.now 1 p.items }) }
 {
-    let lower = half(bytes, 12);
-    let upper = half(bytes, 14);
+    let lower = half(bytes, LOWER);
+    let upper = half(bytes, UPPER);
     let (at, top) = gather(bytes, gone, (lower - 24) / 4);
     clear(bytes, usize::from(at), usize::from(lower));
     clear(bytes, usize::from(upper), usize::from(top));
-    put(bytes, 12, &at.to_le_bytes());
-    put(bytes, 14, &top.to_le_bytes());
+    put(bytes, LOWER, &at.to_le_bytes());
+    put(bytes, UPPER, &top.to_le_bytes());
 }
 
 /// Gathers what stays, line pointers at the front and items at the top. Gives where the line pointers end, and

@@ -15,3 +15,6 @@ mod reading;
 pub use fault::PageFault;
 pub use kind::PageKind;
 pub use page::{Page, read_page};
+
+#[cfg(test)]
+mod tests;

@@ -11,14 +11,14 @@ ghost use Rattle.page_bytes.specs.Spelling.{spelling};
 ghost use Rattle.page_bytes.specs.Splice.{with_item};
 ghost use Rattle.page_bytes.specs.declared.kind.PageKind.TheVariants.{IvfEntries};
 
-use crate::bytes::{half, long, named, put, put_pointer, rounded, word};
+use crate::bytes::{
+    KIND, LOWER, NEXT, SIZE, UPPER, half, long, named, put, put_pointer, rounded, word,
+};
 use crate::drops::drop_from;
 use crate::fault::PageFault;
 use crate::kind::{PageKind, kind_of, word_of};
 use crate::reading::first_fault;
 use std::marker::Model;
-
-const SIZE: usize = 8192;
 
 /// A page of 8,192 bytes, which it holds in place.
 #[derive(Drop)]
@@ -43,10 +43,14 @@ impl Page {
         ensures { result ≡ record { kind = kind; next = None; number = 0; items = [] } }
     {
         let mut bytes = [0; SIZE];
-        put(&mut bytes, 12, &[24, 0, 0xF8, 0x1F, 0xF8, 0x1F, 0x04, 0x20]);
         put(
             &mut bytes,
-            8184,
+            LOWER,
+            &[24, 0, 0xF8, 0x1F, 0xF8, 0x1F, 0x04, 0x20],
+        );
+        put(
+            &mut bytes,
+            NEXT,
             &[0xFF, 0xFF, 0xFF, 0xFF, 0, 0, word_of(kind), 0],
         );
         Page { bytes }
@@ -56,6 +60,9 @@ impl Page {
     pub fn bytes(&self) -> &[u8]
         ensures spelling { result.now ≡ spelling self.now }
         ensures page { IsPage self.now }
+
+        // No other content has these bytes.
+        ensures only { (p : Content) → Spells result.now p → p ≡ self.now }
     {
         &self.bytes
     }
@@ -65,7 +72,7 @@ impl Page {
     pub fn kind(&self) -> PageKind
         ensures { result ≡ self.now.kind }
     {
-        kind_of(half(&self.bytes, 8190))
+        kind_of(half(&self.bytes, KIND))
     }
 
     /// The block of the next page of the same list. Only pages of kind `IvfEntries` have one.
@@ -73,7 +80,7 @@ impl Page {
     pub fn next(&self) -> Option<u32>
         ensures { result ≡ self.now.next }
     {
-        let next = word(&self.bytes, 8184);
+        let next = word(&self.bytes, NEXT);
         if next == u32::MAX { None } else { Some(next) }
     }
 
@@ -89,14 +96,14 @@ impl Page {
     pub fn count(&self) -> u16
         ensures { result ≡ length self.now.items }
     {
-        (half(&self.bytes, 12) - 24) / 4
+        (half(&self.bytes, LOWER) - 24) / 4
     }
 
     /// The bytes that are left, `pd_upper` less `pd_lower`.
     pub fn free(&self) -> u16
         ensures { result ≡ free_of self.now }
     {
-        half(&self.bytes, 14) - half(&self.bytes, 12)
+        half(&self.bytes, UPPER) - half(&self.bytes, LOWER)
     }
 
     /// The item at an offset, which is 1 for the first. It is None exactly where the offset is 0 or past the last item.
@@ -121,8 +128,8 @@ impl Page {
         ensures added { OnSome result
             (self.new ≡ record self.old { items = self.old.items ++ bytes.now ∷ [] }) }
     {
-        let lower = half(&self.bytes, 12);
-        let upper = half(&self.bytes, 14);
+        let lower = half(&self.bytes, LOWER);
+        let upper = half(&self.bytes, UPPER);
         let room = rounded(bytes.len());
         if upper - lower < room + 4 {
             return None;
@@ -136,8 +143,8 @@ impl Page {
         requires { IsSomeAnd (item_at self.old.items off) (λ x. length x ≡ length bytes.now) }
         ensures { self.new ≡ record self.old { items = slice_set self.old.items (off - 1) bytes.now } }
     {
-        let pointer = word(&self.bytes, 20 + 4 * usize::from(off));
-        put(&mut self.bytes, (pointer % 0x8000) as usize, bytes);
+        let old = word(&self.bytes, 20 + 4 * usize::from(off));
+        put(&mut self.bytes, (old % 0x8000) as usize, bytes);
     }
 
     /// Drops the items at some offsets, which are there and rise. The others close up in their order.
@@ -157,7 +164,7 @@ impl Page {
     {
         put(
             &mut self.bytes,
-            8184,
+            NEXT,
             &next.unwrap_or(u32::MAX).to_le_bytes(),
         );
     }
@@ -215,6 +222,6 @@ fn place_item(bytes: &mut [u8], lower: u16, place: u16, item: &[u8])
 {
     put(bytes, usize::from(place), item);
     put_pointer(bytes, usize::from(lower), place, item.len() as u32);
-    put(bytes, 12, &(lower + 4).to_le_bytes());
-    put(bytes, 14, &place.to_le_bytes());
+    put(bytes, LOWER, &(lower + 4).to_le_bytes());
+    put(bytes, UPPER, &place.to_le_bytes());
 }

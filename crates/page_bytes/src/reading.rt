@@ -6,7 +6,7 @@ ghost use Rattle.page_bytes.specs.Decoding.{half_at};
 ghost use Rattle.page_bytes.specs.Format.Format.{Done};
 ghost use Rattle.page_bytes.specs.Format.{Format, page, ending, stack, pointers, fixed, begins_half, is_half, bad_place, first_bad, behind_upper, Passes, PassesPointers, FindsHalf, FindsPlace, FindsEnds, InHalf, Allows, Room, lens_at, room_of, least_upper, most_upper};
 
-use crate::bytes::{half, long, rounded, word};
+use crate::bytes::{NEXT, half, long, rounded, word};
 
 /// Whether a half word is a multiple of a step, from low to high.
 #[tactic(auto, unfolding(crate::specs::Format::is_half))]
@@ -159,7 +159,7 @@ fn ending_in(bytes: &[u8]) -> Result<(), u16>
     requires { length bytes.now ≡ 8192 }
     ensures { Passes ending Done bytes.now 8184 8192 result }
 {
-    let next = word(bytes, 8184);
+    let next = word(bytes, NEXT);
     fixed_in(bytes, 8188, &[0, 0])?;
     half_in(bytes, 8190, least_kind(next), 4, 1)?;
     Ok(())

@@ -31,7 +31,7 @@ abbrev lengths_at : Option Command → List ℕ
 lengths_at None = []
 lengths_at (Some command) = places_in command ∷ []
 
-first_of : (text us : List ℕ) (n : ℕ) → text ≡ n ∷ us → IsSkipped text → n ≡ 35
+pub first_of : (text us : List ℕ) (n : ℕ) → text ≡ n ∷ us → IsSkipped text → n ≡ 35
 first_of text us n is skipped = at (subst IsSkipped is skipped)
   where
     at : IsSkipped (n ∷ us) → n ≡ 35

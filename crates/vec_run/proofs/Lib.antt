@@ -3,5 +3,6 @@ mod Cutting
 mod Forms
 mod LineCuts
 mod Moving
+mod OneReading
 mod Readings
 mod Spelling

@@ -5,6 +5,7 @@ mod command;
 mod cuts;
 mod exact;
 mod fault;
+mod laws;
 mod line;
 mod numbers;
 mod outcome;

@@ -1,4 +1,4 @@
-use Rattle.std.proofs.Common.{◌≡◌, ℕ, ◌+◌, ◌-◌, ◌≤◌, List, ◌++◌, length, take, drop, replicate, refl, sym, ap, ◌∙◌, arith}
+use Rattle.std.proofs.Common.{◌≡◌, ℕ, ◌+◌, ◌-◌, ◌≤◌, List, ◌++◌, length, take, drop, replicate, ap, arith}
 use Rattle.std.proofs.lemmas.List.{drop-drop, length-drop, length-take-le, length-replicate}
 use borrow.Rule.Slice.PartMut.{put_mid}
 use Rattle.page_bytes.specs.Spelling.{zeros}

@@ -1,11 +1,11 @@
-use Rattle.std.proofs.Common.{◌≡◌, ℕ, ◌+◌, ◌-◌, ◌*◌, ◌/◌, ◌≤◌, List, length, refl, sym, ap, ◌∙◌, subst, arith}
+use Rattle.std.proofs.Common.{◌≡◌, ℕ, ◌+◌, ◌-◌, ◌/◌, List, refl, sym, ◌∙◌, subst, arith}
 use Rattle.std.specs.Int.{w16, to_le_bytes}
-use Rattle.page_bytes.specs.Content.{others, lower_of, upper_of}
+use Rattle.page_bytes.specs.Content.{others}
 use Rattle.page_bytes.specs.Spelling.{zeros}
 use Rattle.page_bytes.specs.Splice.{spliced}
 use Rattle.page_bytes.specs.Decoding.{content, Spells}
-use Rattle.page_bytes.proofs.Whole.{ends, length_is}
-use Rattle.page_bytes.proofs.Dropped.{InOrder, in_order, gathers_all}
+use Rattle.page_bytes.proofs.Whole.{ends}
+use Rattle.page_bytes.proofs.Dropped.{in_order, gathers_all}
 use Rattle.page_bytes.proofs.drops.drop_from.Goals as goal
 
 pub overflow_sub-lower : goal.overflow_sub-lower

@@ -1,9 +1,7 @@
-use Rattle.std.proofs.Common.{◌≡◌, ℕ, ◌+◌, ◌-◌, ◌*◌, ◌/◌, ◌%◌, ◌^◌, ◌<◌, ◌≤◌, List, [], length, drop, refl, sym, ap, subst, ◌∙◌, arith, rules}
-use Rattle.std.proofs.lemmas.List.{drop_all}
+use Rattle.std.proofs.Common.{ℕ, ◌+◌, ◌*◌, ◌<◌, length, sym, ap, ◌∙◌, arith}
 use Rattle.page_bytes.specs.Decoding.{content, word_at}
-use Rattle.page_bytes.specs.Dropping.{Gathers, Meets}
 use Rattle.page_bytes.proofs.Whole.{length_is}
-use Rattle.page_bytes.proofs.Dropped.{Next, next_word, gathers_none, step_gone, step_kept, meets_none, meets_more, meets_on}
+use Rattle.page_bytes.proofs.Dropped.{next_word, gathers_none, step_gone, step_kept, meets_none, meets_more, meets_on}
 use Rattle.page_bytes.proofs.drops.gather.Goals as goal
 use Rattle.page_bytes.proofs.drops.gather.Goals.{then-meets, else-meets}
 

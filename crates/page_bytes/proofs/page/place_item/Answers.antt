@@ -1,4 +1,4 @@
-use Rattle.std.proofs.Common.{◌≡◌, refl, rules, arith}
+use Rattle.std.proofs.Common.{rules}
 use Rattle.page_bytes.specs.Splice.{with_item}
 use Rattle.page_bytes.specs.Spelling.{line_pointer}
 use Rattle.page_bytes.proofs.page.place_item.Goals as goal

@@ -1,7 +1,5 @@
-use Rattle.std.proofs.Common.{◌≡◌, ℕ, ◌⊎◌, inl, inr, List, length, min, Ok, refl, sym, ap, ◌∙◌, subst, arith}
-use Rattle.page_bytes.specs.Content.{Content}
+use Rattle.std.proofs.Common.{ℕ, inl, inr, List, length, min, Ok, refl, sym, ap, ◌∙◌, subst}
 use Rattle.page_bytes.specs.Decoding.{Spells, content}
-use Rattle.page_bytes.specs.Format.{first_bad, page}
 use Rattle.page_bytes.proofs.Whole.{IsSpelled-from, spelled}
 use Rattle.page_bytes.proofs.Verdicts.{whole_page, page_has_none, same_whole, first_fault_is}
 use Rattle.page_bytes.proofs.page.read_page.Goals as goal

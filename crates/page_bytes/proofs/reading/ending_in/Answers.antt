@@ -1,4 +1,4 @@
-use Rattle.std.proofs.Common.{◌≡◌, ℕ, cond, nat_eq, refl, sym, ap, ◌∙◌}
+use Rattle.std.proofs.Common.{ℕ, cond, nat_eq, refl, ap, ◌∙◌}
 use Rattle.std.proofs.lemmas.Result.{err_from_is_err_and}
 use Rattle.page_bytes.specs.Decoding.{word_at}
 use Rattle.page_bytes.specs.Format.{half}

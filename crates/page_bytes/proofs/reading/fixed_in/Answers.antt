@@ -1,4 +1,4 @@
-use Rattle.std.proofs.Common.{◌≡◌, ℕ, ◌+◌, get_or, length, sym, ap, ◌∙◌, arith}
+use Rattle.std.proofs.Common.{ℕ, get_or, sym, ap, ◌∙◌, arith}
 use Rattle.page_bytes.proofs.Readers.{fixed_step, fixed_wrong, fixed_end}
 use Rattle.page_bytes.proofs.reading.fixed_in.Goals as goal
 

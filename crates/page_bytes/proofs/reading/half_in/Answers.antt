@@ -1,6 +1,6 @@
-use Rattle.std.proofs.Common.{◌≡◌, ℕ, ◌+◌, ◌<◌, get_or, refl, sym, ap, ◌∙◌, subst, arith}
+use Rattle.std.proofs.Common.{ℕ, ◌+◌, get_or, sym, ap, ◌∙◌, subst, arith}
 use Rattle.page_bytes.specs.Decoding.{half_at}
-use Rattle.page_bytes.specs.Format.{Format, InHalf, is_half, begins_half, bad_place}
+use Rattle.page_bytes.specs.Format.{InHalf, is_half, begins_half, bad_place}
 use Rattle.page_bytes.proofs.Parts.{is_half-true, steps_of}
 use Rattle.page_bytes.proofs.Readers.{half_found, half_bad_first, half_bad_second}
 use Rattle.page_bytes.proofs.reading.half_in.Goals as goal

@@ -1,4 +1,4 @@
-use Rattle.std.proofs.Common.{◌≡◌, ℕ, ◌+◌, ◌*◌, ◌-◌, ◌/◌, ap, ◌∙◌, arith}
+use Rattle.std.proofs.Common.{◌≡◌, ◌+◌, ◌*◌, ◌-◌, ◌/◌, ap, ◌∙◌, arith}
 use Rattle.page_bytes.specs.Spelling.{zeros}
 use Rattle.page_bytes.specs.Format.{bad_place, fixed, stack, lens_at}
 use Rattle.page_bytes.proofs.reading.items_in.Goals as goal

@@ -1,4 +1,4 @@
-use Rattle.std.proofs.Common.{◌≡◌, ◌-◌, ◌≤◌}
+use Rattle.std.proofs.Common.{◌-◌, ◌≤◌}
 use Rattle.page_bytes.proofs.Readers.{ZeroIn}
 use Rattle.page_bytes.proofs.reading.past_zeros.Given as goal
 

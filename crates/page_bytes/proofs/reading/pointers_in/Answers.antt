@@ -1,7 +1,7 @@
-use Rattle.std.proofs.Common.{◌≡◌, ℕ, ◌+◌, ◌-◌, ◌*◌, Ok, Err, refl, sym, ap, ◌∙◌, subst, arith}
+use Rattle.std.proofs.Common.{◌≡◌, ℕ, ◌+◌, ◌-◌, ◌*◌, Ok, Err, ◌∙◌, subst, arith}
 use Rattle.std.proofs.lemmas.Result.{err_from_is_err_and}
-use Rattle.page_bytes.specs.Format.{FindsPlace, Allows}
-use Rattle.page_bytes.proofs.Readers.{Read, read_none, read_allows, read_more, read_all, pointers_begin, pointers_on, pointers_off, pointers_end}
+use Rattle.page_bytes.specs.Format.{FindsPlace}
+use Rattle.page_bytes.proofs.Readers.{read_none, read_more, read_all, pointers_begin, pointers_on, pointers_off, pointers_end}
 use Rattle.page_bytes.proofs.reading.pointers_in.Goals as goal
 
 pub loop-i-init : goal.loop-i-init

@@ -1,9 +1,8 @@
-use Rattle.std.proofs.Common.{◌≡◌, ℕ, suc, ◌+◌, ◌-◌, ◌*◌, ◌/◌, ◌^◌, ◌<◌, ◌≤◌, length, refl, sym, ap, ◌∙◌, subst, arith}
+use Rattle.std.proofs.Common.{◌≡◌, ℕ, suc, ◌+◌, ◌-◌, ◌*◌, ◌/◌, ◌^◌, ap, ◌∙◌, arith}
 use Rattle.std.proofs.lemmas.Result.{err_from_is_err_and}
 use Rattle.page_bytes.specs.Content.{round8}
-use Rattle.page_bytes.specs.Spelling.{zeros}
 use Rattle.page_bytes.specs.Decoding.{word_at}
-use Rattle.page_bytes.specs.Format.{Format, stack, fixed, bad_place, lens_at, room_of}
+use Rattle.page_bytes.specs.Format.{stack, lens_at, room_of}
 use Rattle.page_bytes.proofs.Placing.{rounds}
 use Rattle.page_bytes.proofs.Readers.{len_at, room_last, room_of-nil, stack_skips, stack_end}
 use Rattle.page_bytes.proofs.reading.stack_in.Goals as goal

@@ -1,5 +1,5 @@
-use Rattle.std.proofs.Common.{◌≡◌, ℕ, ◌+◌, ◌≤◌}
-use Rattle.page_bytes.specs.Format.{Format, stack, bad_place, lens_at, room_of}
+use Rattle.std.proofs.Common.{◌≡◌, ◌+◌, ◌≤◌}
+use Rattle.page_bytes.specs.Format.{stack, bad_place, lens_at, room_of}
 use Rattle.page_bytes.proofs.reading.stack_in.Given as goal
 
 abbrev pub invariant-items : goal.invariant-items

@@ -1,5 +1,5 @@
-use Rattle.std.proofs.Common.{◌≡◌, ℕ, ◌+◌, ◌-◌, ◌<◌, ◌≤◌, [], ◌∷◌, ◌++◌, length, refl, ap, ◌∙◌, arith}
-use Rattle.page_bytes.specs.Content.{Content, lower_of, upper_of}
+use Rattle.std.proofs.Common.{ℕ, ◌-◌, [], ◌∷◌, ◌++◌, length, refl, ap, ◌∙◌, arith}
+use Rattle.page_bytes.specs.Content.{Content}
 use Rattle.page_bytes.specs.Splice.{with_item}
 use Rattle.page_bytes.specs.Decoding.{content}
 use Rattle.page_bytes.proofs.Placing.{rounds}

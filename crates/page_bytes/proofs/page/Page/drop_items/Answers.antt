@@ -1,6 +1,5 @@
 use Rattle.std.proofs.Common.{refl, ap, ◌∙◌}
 use Rattle.page_bytes.specs.Content.{Content, others}
-use Rattle.page_bytes.specs.Decoding.{content}
 use Rattle.page_bytes.proofs.Whole.{page_after, content_after}
 use Rattle.page_bytes.proofs.page.Page.drop_items.Goals as goal
 

@@ -1,4 +1,4 @@
-use Rattle.std.proofs.Common.{◌≡◌, List, ℕ, [], ◌∷◌, refl, sym, ap, subst, ◌∙◌}
+use Rattle.std.proofs.Common.{◌≡◌, List, ℕ, [], ◌∷◌, refl, sym, subst}
 use Rattle.page_bytes.specs.Spelling.{zeros, kind_word}
 use Rattle.page_bytes.specs.Splice.{spliced}
 use Rattle.page_bytes.specs.Decoding.{Spells}

@@ -1,4 +1,4 @@
-use Rattle.std.proofs.Common.{◌≡◌, ℕ, ◌+◌, ◌*◌, ◌<◌, ◌≤◌, Some, length, refl, ap, ◌∙◌, arith}
+use Rattle.std.proofs.Common.{◌≡◌, ℕ, ◌+◌, ◌*◌, Some, length, refl, ap, ◌∙◌, arith}
 use Rattle.page_bytes.specs.Content.{Content, item_at}
 use Rattle.page_bytes.specs.Decoding.{content, word_at}
 use Rattle.page_bytes.proofs.Whole.{item_within, item_shown}

@@ -1,4 +1,4 @@
-use Rattle.std.proofs.Common.{◌≡◌, ap, ◌∙◌, rules}
+use Rattle.std.proofs.Common.{ap, ◌∙◌}
 use Rattle.page_bytes.specs.Content.{Content}
 use Rattle.page_bytes.specs.Splice.{spliced}
 use Rattle.page_bytes.specs.Decoding.{content}

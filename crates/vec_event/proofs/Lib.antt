@@ -1,0 +1,9 @@
+pub mod Clear
+pub mod Loops
+pub mod FieldLaws
+pub mod EachField
+pub mod CountedFields
+pub mod EachKind
+pub mod EachEvent
+pub mod Readings
+pub mod Lengths

@@ -1,0 +1,179 @@
+//! The fields of each kind of event, in their order.
+
+ghost use Rattle.std.specs.Prelude.{◌≡◌, length};
+ghost use Rattle.vec_event.specs.Reading.{put, join, link, relist, drop_ids, mark, entry, hint, block, ivf_add, ivf_grow, ivf_drop, ivf_hint};
+ghost use Rattle.vec_event.specs.Answers.{Gives};
+
+use crate::counted::{bits, lists, offsets};
+use crate::event::Event;
+use crate::fields::{
+    byte, four_bytes_from, heap_id, level, number_of_two, optional_place, place, two_bytes_from,
+    version,
+};
+use crate::halt::Halt;
+use std::alloc::Global;
+
+#[tactic(auto, unfolding(crate::specs::Reading::put))]
+pub fn put(alloc: Global, bytes: &[u8]) -> Result<(Event, &[u8]), Halt>
+    ensures { Gives (λ x. (x.0, x.1.now)) result (put bytes.now) }
+{
+    let (at, rest) = place(bytes)?;
+    let (list_at, rest) = place(rest)?;
+    let (version, rest) = version(rest)?;
+    let (level, rest) = byte(rest)?;
+    let (id, rest) = heap_id(rest)?;
+    let (bits, rest) = bits(alloc, rest)?;
+    let (lists, rest) = lists(alloc, rest)?;
+    let event = Event::Put {
+        at,
+        list_at,
+        version,
+        level,
+        id,
+        bits,
+        lists,
+    };
+    Ok((event, rest))
+}
+
+#[tactic(auto, unfolding(crate::specs::Reading::join))]
+pub fn join(bytes: &[u8]) -> Result<(Event, &[u8]), Halt>
+    ensures { Gives (λ x. (x.0, x.1.now)) result (join bytes.now) }
+{
+    let (at, rest) = place(bytes)?;
+    let (version, rest) = version(rest)?;
+    let (id, rest) = heap_id(rest)?;
+    Ok((Event::Join { at, version, id }, rest))
+}
+
+#[tactic(auto, unfolding(crate::specs::Reading::link))]
+pub fn link(bytes: &[u8]) -> Result<(Event, &[u8]), Halt>
+    ensures { Gives (λ x. (x.0, x.1.now)) result (link bytes.now) }
+{
+    let (at, rest) = place(bytes)?;
+    let (list_at, rest) = place(rest)?;
+    let (version, rest) = version(rest)?;
+    let (slot, rest) = number_of_two(rest)?;
+    let (to, rest) = place(rest)?;
+    let event = Event::Link {
+        at,
+        list_at,
+        version,
+        slot,
+        to,
+    };
+    Ok((event, rest))
+}
+
+#[tactic(auto, unfolding(crate::specs::Reading::relist))]
+pub fn relist(alloc: Global, bytes: &[u8]) -> Result<(Event, &[u8]), Halt>
+    ensures { Gives (λ x. (x.0, x.1.now)) result (relist bytes.now) }
+{
+    let (at, rest) = place(bytes)?;
+    let (list_at, rest) = place(rest)?;
+    let (version, rest) = version(rest)?;
+    let (lists, rest) = lists(alloc, rest)?;
+    let event = Event::Relist {
+        at,
+        list_at,
+        version,
+        lists,
+    };
+    Ok((event, rest))
+}
+
+#[tactic(auto, unfolding(crate::specs::Reading::drop_ids))]
+pub fn drop_ids(bytes: &[u8]) -> Result<(Event, &[u8]), Halt>
+    ensures { Gives (λ x. (x.0, x.1.now)) result (drop_ids bytes.now) }
+{
+    let (at, rest) = place(bytes)?;
+    let (version, rest) = version(rest)?;
+    let (gone, rest) = two_bytes_from(1, 1_023, rest)?;
+    Ok((Event::Drop { at, version, gone }, rest))
+}
+
+#[tactic(auto, unfolding(crate::specs::Reading::mark))]
+pub fn mark(bytes: &[u8]) -> Result<(Event, &[u8]), Halt>
+    ensures { Gives (λ x. (x.0, x.1.now)) result (mark bytes.now) }
+{
+    let (at, rest) = place(bytes)?;
+    let (list_at, rest) = place(rest)?;
+    let (version, rest) = version(rest)?;
+    let event = Event::Mark {
+        at,
+        list_at,
+        version,
+    };
+    Ok((event, rest))
+}
+
+#[tactic(auto, unfolding(crate::specs::Reading::entry))]
+pub fn entry(bytes: &[u8]) -> Result<(Event, &[u8]), Halt>
+    ensures { Gives (λ x. (x.0, x.1.now)) result (entry bytes.now) }
+{
+    let (to, rest) = optional_place(bytes)?;
+    let (level, rest) = level(to, rest)?;
+    Ok((Event::Entry { to, level }, rest))
+}
+
+#[tactic(auto, unfolding(crate::specs::Reading::hint))]
+pub fn hint(bytes: &[u8]) -> Result<(Event, &[u8]), Halt>
+    ensures { Gives (λ x. (x.0, x.1.now)) result (hint bytes.now) }
+{
+    let (block, rest) = four_bytes_from(0, 32_768, bytes)?;
+    Ok((Event::Hint { block }, rest))
+}
+
+#[tactic(auto, unfolding(crate::specs::Reading::ivf_add))]
+pub fn ivf_add(alloc: Global, bytes: &[u8]) -> Result<(Event, &[u8]), Halt>
+    ensures { Gives (λ x. (x.0, x.1.now)) result (ivf_add bytes.now) }
+{
+    let (block, rest) = block(bytes)?;
+    let (id, rest) = heap_id(rest)?;
+    let (bits, rest) = bits(alloc, rest)?;
+    Ok((Event::IvfAdd { block, id, bits }, rest))
+}
+
+#[tactic(auto, unfolding(crate::specs::Reading::ivf_grow))]
+pub fn ivf_grow(alloc: Global, bytes: &[u8]) -> Result<(Event, &[u8]), Halt>
+    ensures { Gives (λ x. (x.0, x.1.now)) result (ivf_grow bytes.now) }
+{
+    let (list, rest) = block(bytes)?;
+    let (last, rest) = block(rest)?;
+    let (block, rest) = block(rest)?;
+    let (id, rest) = heap_id(rest)?;
+    let (bits, rest) = bits(alloc, rest)?;
+    let event = Event::IvfGrow {
+        list,
+        last,
+        block,
+        id,
+        bits,
+    };
+    Ok((event, rest))
+}
+
+#[tactic(auto, unfolding(crate::specs::Reading::ivf_drop))]
+pub fn ivf_drop(alloc: Global, bytes: &[u8]) -> Result<(Event, &[u8]), Halt>
+    ensures { Gives (λ x. (x.0, x.1.now)) result (ivf_drop bytes.now) }
+{
+    let (block, rest) = block(bytes)?;
+    let (gone, rest) = offsets(alloc, rest)?;
+    Ok((Event::IvfDrop { block, gone }, rest))
+}
+
+#[tactic(auto, unfolding(crate::specs::Reading::ivf_hint))]
+pub fn ivf_hint(bytes: &[u8]) -> Result<(Event, &[u8]), Halt>
+    ensures { Gives (λ x. (x.0, x.1.now)) result (ivf_hint bytes.now) }
+{
+    let (list, rest) = block(bytes)?;
+    let (block, rest) = block(rest)?;
+    Ok((Event::IvfHint { list, block }, rest))
+}
+
+/// The number of a block or of a list, 0 to 32,767.
+fn block(bytes: &[u8]) -> Result<(u32, &[u8]), Halt>
+    ensures { Gives (λ x. (x.0, x.1.now)) result (block bytes.now) }
+{
+    four_bytes_from(0, 32_767, bytes)
+}

@@ -1,0 +1,60 @@
+//! Pieces of spellings, put at the end of bytes that have room for them.
+
+ghost use Rattle.std.specs.Prelude.{◌≡◌, ◌<◌, ◌≤◌, ◌+◌, ◌^◌, ◌++◌, length, vec_len, vec_capacity};
+ghost use Rattle.std.specs.Int.{w16, w32, to_le_bytes};
+ghost use Rattle.std.specs.List.{flat_map};
+ghost use Rattle.vec_names.specs.Pointer.{tid_option_bytes};
+ghost use Rattle.vec_event.specs.Spelling.{bits_bytes, lists_bytes, offsets_bytes, RisesFrom};
+
+use bit_code::Bits;
+use vec_names::Tid;
+
+pub fn put(into: &mut Vec<u8>, bytes: &[u8])
+    requires { vec_len into.old + length bytes.now ≤ vec_capacity into.old }
+    ensures items { into.new.items ≡ into.old.items ++ bytes.now }
+    ensures len { vec_len into.new ≡ vec_len into.old + length bytes.now }
+    ensures capacity { vec_capacity into.old ≤ vec_capacity into.new }
+{
+    match into.extend_from_slice(bytes) {
+        Ok(()) => (),
+        Err(_) => unreachable!(),
+    }
+}
+
+pub fn put_bits(into: &mut Vec<u8>, bits: &Bits)
+    requires { vec_len into.old + length (bits_bytes bits.now) ≤ vec_capacity into.old }
+    ensures items { into.new.items ≡ into.old.items ++ bits_bytes bits.now }
+    ensures len { vec_len into.new ≡ vec_len into.old + length (bits_bytes bits.now) }
+    ensures capacity { vec_capacity into.old ≤ vec_capacity into.new }
+{
+    put(into, &bits.count().to_le_bytes());
+    put(into, bits.bytes());
+}
+
+#[tactic(auto, using(crate::proofs::Lengths::lists_length))]
+pub fn put_lists(into: &mut Vec<u8>, places: &[Option<Tid>])
+    requires few { length places.now < 2 ^ 16 }
+    requires room { vec_len into.old + length (lists_bytes places.now) ≤ vec_capacity into.old }
+    ensures items { into.new.items ≡ into.old.items ++ lists_bytes places.now }
+    ensures len { vec_len into.new ≡ vec_len into.old + length (lists_bytes places.now) }
+    ensures capacity { vec_capacity into.old ≤ vec_capacity into.new }
+{
+    put(into, &(places.len() as u16).to_le_bytes());
+    'places: for place in places {
+        put(into, &Tid::spelled_option(*place));
+    }
+}
+
+#[tactic(auto, using(crate::proofs::Lengths::offsets_length))]
+pub fn put_offsets(into: &mut Vec<u8>, offsets: &[u16])
+    requires rises { RisesFrom 0 offsets.now }
+    requires room { vec_len into.old + length (offsets_bytes offsets.now) ≤ vec_capacity into.old }
+    ensures items { into.new.items ≡ into.old.items ++ offsets_bytes offsets.now }
+    ensures len { vec_len into.new ≡ vec_len into.old + length (offsets_bytes offsets.now) }
+    ensures capacity { vec_capacity into.old ≤ vec_capacity into.new }
+{
+    put(into, &(offsets.len() as u16).to_le_bytes());
+    'offsets: for offset in offsets {
+        put(into, &offset.to_le_bytes());
+    }
+}

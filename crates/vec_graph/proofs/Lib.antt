@@ -1,0 +1,8 @@
+pub mod Prefixes
+pub mod Entries
+pub mod Placing
+pub mod Levels
+pub mod Layers
+pub mod OneAtATime
+pub mod FirstInsert
+pub mod IdleVacuum

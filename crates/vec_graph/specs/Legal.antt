@@ -1,0 +1,18 @@
+-- Legal histories.
+use Rattle.std.specs.Prelude.{List, [], ◌∷◌, ◌++◌, ⊤}
+use Rattle.vec_event.specs.declared.event.Act.{Act}
+use Rattle.vec_graph.specs.declared.graph.Graph.{Graph}
+use Rattle.vec_graph.specs.Rules.{IsEventAllowed}
+
+-- the act may come after these acts
+abbrev pub IsAllowed : Graph → List Act → Act → Type 0
+IsAllowed base before a = IsEventAllowed base before a.desk a.event
+
+-- each of these acts is allowed after those before it, of which the first ones are given
+abbrev pub IsLegalAfter : Graph → List Act → List Act → Type 0
+IsLegalAfter base before [] = ⊤
+IsLegalAfter base before (a ∷ acts) = IsAllowed base before a × IsLegalAfter base (before ++ a ∷ []) acts
+
+-- each act is allowed after the acts before it
+abbrev pub IsLegal : Graph → List Act → Type 0
+IsLegal base acts = IsLegalAfter base [] acts

@@ -1,0 +1,205 @@
+-- Which event a desk may make after a list of acts: one word for each kind of event. A base is the graph that the acts begin at.
+use Rattle.std.specs.Prelude.{◌≡◌, ℕ, ◌+◌, ◌-◌, ◌/◌, ◌<◌, ◌≤◌, ◌^◌, ◌≢◌, ◌⊎◌, min, Bool, true, false, List, length, count_by, slice_get, Option, Some, None}
+use Rattle.vec_names.specs.declared.tid.Tid.{Tid}
+use Rattle.vec_event.specs.declared.event.Event.{Event}
+use Rattle.vec_event.specs.declared.event.Event.TheVariants as event
+use Rattle.vec_event.specs.declared.event.Act.{Act}
+use Rattle.vec_event.specs.declared.gate.Gate.{Gate}
+use Rattle.vec_event.specs.declared.gate.Gate.TheVariants.{Update, Vacuum}
+use Rattle.vec_event.specs.declared.gate.Hold.{Hold}
+use Rattle.vec_event.specs.declared.gate.Hold.TheVariants.{Shared, Alone}
+use Rattle.vec_event.specs.declared.stage.Stage.{Stage}
+use Rattle.vec_event.specs.declared.stage.Stage.TheVariants.{Remove, Repair, Mark}
+use Rattle.vec_graph.specs.declared.node.Node.{Node}
+use Rattle.vec_graph.specs.declared.graph.Graph.{Graph}
+use Rattle.vec_graph.specs.Graph.{node_at, IsLiveAt, IsDoomed, IsDoomedAt, slots_of_level, slot_layer, IsMember}
+use Rattle.vec_graph.specs.Places.{Spot, place_on, new_place, new_blocks}
+use Rattle.vec_graph.specs.Effect.{after}
+use Rattle.vec_graph.specs.Holding.{act_of, Holds, HoldsAs, Knows}
+use Rattle.vec_graph.specs.Phases.{IsInPhase, IsAPhaseStanding, IsRemoved, IsRepaired}
+
+-- ---- gates
+
+-- The desk does not hold the gate; and either no other desk does, or this hold and all others are Shared.
+pub record IsGateAllowed (acts : List Act) (desk : ℕ) (gate : Gate) (hold : Hold) : Type 0 where
+  pub not_held : Holds acts desk gate → ⊥
+  pub beside : (other : ℕ) (theirs : Hold) → other ≢ desk → HoldsAs acts other gate theirs → (hold ≡ Shared) × (theirs ≡ Shared)
+
+-- The desk holds the gate; the gate of vacuums stays held while a phase stands.
+pub record IsUngateAllowed (acts : List Act) (desk : ℕ) (gate : Gate) : Type 0 where
+  pub held : Holds acts desk gate
+  pub no_phase : gate ≡ Vacuum → IsAPhaseStanding acts → ⊥
+
+-- ---- phases
+
+pub record IsPhaseRemoveAllowed (acts : List Act) (desk : ℕ) : Type 0 where
+  pub alone : HoldsAs acts desk Vacuum Alone
+  pub no_phase : IsAPhaseStanding acts → ⊥
+
+abbrev pub IsPhaseRepairAllowed : List Act → ℕ → Type 0
+IsPhaseRepairAllowed acts desk = (position : ℕ) × IsRemoved acts desk position
+
+abbrev pub IsPhaseMarkAllowed : Graph → List Act → ℕ → Type 0
+IsPhaseMarkAllowed base acts desk = IsRepaired base acts desk
+
+abbrev pub IsPhaseAllowed : Graph → List Act → ℕ → Stage → Type 0
+IsPhaseAllowed base acts desk Remove = IsPhaseRemoveAllowed acts desk
+IsPhaseAllowed base acts desk Repair = IsPhaseRepairAllowed acts desk
+IsPhaseAllowed base acts desk Mark = IsPhaseMarkAllowed base acts desk
+
+-- The desk's phase Mark stands, and no node is doomed.
+pub record IsVacuumEndAllowed (base : Graph) (acts : List Act) (desk : ℕ) : Type 0 where
+  pub phase : IsInPhase acts desk Mark
+  pub none_doomed : (at : Tid) → IsDoomedAt (after base acts) at → ⊥
+
+-- The desk's phase of this stage stands, and it may not end the vacuum otherwise.
+pub record IsCancelAllowed (base : Graph) (acts : List Act) (desk : ℕ) (stage : Stage) : Type 0 where
+  pub phase : IsInPhase acts desk stage
+  pub not_done : IsVacuumEndAllowed base acts desk → ⊥
+
+-- ---- nodes
+
+-- The highest level of a node: its neighbours fit one item of a page, and it one byte.
+abbrev pub most_level : ℕ → ℕ
+most_level m = min (1358 / m - 2) 255
+
+-- the desk knows each member of each layer up to that layer
+abbrev pub KnowsMembers : Graph → List Act → ℕ → ℕ → List (Option Tid) → Type 0
+KnowsMembers base acts desk level lists =
+    (layer : ℕ) (to : Tid) → IsMember (after base acts).params.m level lists layer to → Knows base acts desk to layer
+
+-- The places and the version are those that the element's block gives, or those on new blocks, which stay within 32,768.
+abbrev pub IsPlaced : Graph → Tid → ℕ → Spot → Type 0
+IsPlaced g at level spot =
+    (place_on g at.block level ≡ Some spot) ⊎ ((new_place g level ≡ Some spot) × (g.blocks + new_blocks g level ≤ 32768))
+
+-- A new node: at a place for its level, with a value of the index's length, and neighbours that the desk knows.
+pub record IsPutAllowed (base : Graph) (acts : List Act) (desk : ℕ) (at list_at : Tid) (version level : ℕ) (bits : List Bool) (lists : List (Option Tid)) : Type 0 where
+  pub update : Holds acts desk Update
+  pub placed : IsPlaced (after base acts) at level (record { at = at; list_at = list_at; version = version })
+  pub as_long : length bits ≡ (after base acts).params.bits
+  pub not_high : level ≤ most_level (after base acts).params.m
+  pub as_many : length lists ≡ slots_of_level (after base acts).params.m level
+  pub known : KnowsMembers base acts desk level lists
+
+-- the node at a place, which has this version and is not deleted
+pub record IsThere (g : Graph) (at : Tid) (version : ℕ) (n : Node) : Type 0 where
+  pub stands : node_at g at ≡ Some n
+  pub of_version : n.version ≡ version
+  pub not_deleted : n.deleted ≡ false
+
+-- A further id joins a node that has 1 to 9.
+pub record IsJoinAllowed (base : Graph) (acts : List Act) (desk : ℕ) (at : Tid) (version : ℕ) : Type 0 where
+  pub update : Holds acts desk Update
+  pub node : Node
+  pub there : IsThere (after base acts) at version node
+  pub some : 1 ≤ length node.ids
+  pub room : length node.ids ≤ 9
+
+-- A slot that the node has comes to name a place that the desk knows up to the slot's layer.
+pub record IsLinkAllowed (base : Graph) (acts : List Act) (desk : ℕ) (at list_at : Tid) (version slot : ℕ) (to : Tid) : Type 0 where
+  pub update : Holds acts desk Update
+  pub owner : Node
+  pub there : IsThere (after base acts) at version owner
+  pub listed : owner.list_at ≡ list_at
+  pub slot_is : slot < length owner.slots
+  pub known : Knows base acts desk to (slot_layer (after base acts).params.m owner.level slot)
+
+-- All slots of the node come to name other places, each of which the desk knows up to the slot's layer.
+pub record IsRelistAllowed (base : Graph) (acts : List Act) (desk : ℕ) (at list_at : Tid) (version : ℕ) (lists : List (Option Tid)) : Type 0 where
+  pub update : Holds acts desk Update
+  pub owner : Node
+  pub there : IsThere (after base acts) at version owner
+  pub listed : owner.list_at ≡ list_at
+  pub as_many : length lists ≡ length owner.slots
+  pub known : KnowsMembers base acts desk owner.level lists
+
+-- Ids go that are there, one at least, while the desk's phase Remove stands.
+pub record IsDropAllowed (base : Graph) (acts : List Act) (desk : ℕ) (at : Tid) (version gone : ℕ) : Type 0 where
+  pub phase : IsInPhase acts desk Remove
+  pub node : Node
+  pub there : IsThere (after base acts) at version node
+  pub names_some : gone ≢ 0
+  pub names_no_others : gone < 2 ^ length node.ids
+
+-- A doomed node is deleted, while the desk's phase Mark stands.
+pub record IsMarkAllowed (base : Graph) (acts : List Act) (desk : ℕ) (at list_at : Tid) (version : ℕ) : Type 0 where
+  pub phase : IsInPhase acts desk Mark
+  pub node : Node
+  pub there : IsThere (after base acts) at version node
+  pub listed : node.list_at ≡ list_at
+  pub doomed : IsDoomed node
+
+-- ---- the entry point and the hint
+
+-- A node that the desk knows up to its own level, which is the one named.
+pub record IsEntryAtAllowed (base : Graph) (acts : List Act) (desk : ℕ) (to : Tid) (level : ℕ) : Type 0 where
+  pub update : Holds acts desk Update
+  pub node : Node
+  pub stands : node_at (after base acts) to ≡ Some node
+  pub of_level : node.level ≡ level
+  pub known : Knows base acts desk to level
+
+-- No entry point any more: the desk holds Update alone, and no node is live.
+pub record IsNoEntryAllowed (base : Graph) (acts : List Act) (desk level : ℕ) : Type 0 where
+  pub alone : HoldsAs acts desk Update Alone
+  pub level_0 : level ≡ 0
+  pub none_live : (at : Tid) → IsLiveAt (after base acts) at 0 → ⊥
+
+abbrev pub IsEntryAllowed : Graph → List Act → ℕ → Option Tid → ℕ → Type 0
+IsEntryAllowed base acts desk (Some to) level = IsEntryAtAllowed base acts desk to level
+IsEntryAllowed base acts desk None level = IsNoEntryAllowed base acts desk level
+
+pub record IsHintAllowed (base : Graph) (acts : List Act) (desk block : ℕ) : Type 0 where
+  pub holds : Holds acts desk Update ⊎ Holds acts desk Vacuum
+  pub counted_from_1 : 1 ≤ block
+  pub within : block ≤ (after base acts).blocks
+
+-- ---- settling and faults
+
+-- a lasting event goes to the log; a passing one does not
+abbrev pub is_lasting : Event → Bool
+is_lasting (event.Gate gate hold) = false
+is_lasting (event.Ungate gate) = false
+is_lasting (event.Phase stage) = false
+is_lasting event.VacuumEnd = false
+is_lasting (event.Cancel stage) = false
+is_lasting (event.Settled upto) = false
+is_lasting (event.DiskFaulted count) = false
+is_lasting _ = true
+
+abbrev pub lasting_events : List Act → ℕ
+lasting_events acts = count_by (λ a. is_lasting a.event) acts
+
+-- Not more events are settled than there are, and not fewer than before.
+pub record IsSettledAllowed (acts : List Act) (upto : ℕ) : Type 0 where
+  pub not_more : upto ≤ lasting_events acts
+  pub not_fewer : (k desk before : ℕ) → slice_get acts k ≡ Some (act_of desk (event.Settled before)) → before ≤ upto
+
+-- Each fault is a further one.
+abbrev pub IsFaultAllowed : List Act → ℕ → Type 0
+IsFaultAllowed acts count = (k desk before : ℕ) → slice_get acts k ≡ Some (act_of desk (event.DiskFaulted before)) → before < count
+
+-- ---- all events
+
+-- The desk may make the event after these acts. No event of an index of lists is allowed.
+abbrev pub IsEventAllowed : Graph → List Act → ℕ → Event → Type 0
+IsEventAllowed base acts desk (event.Put at list_at version level id bits lists) = IsPutAllowed base acts desk at list_at version level bits lists
+IsEventAllowed base acts desk (event.Join at version id) = IsJoinAllowed base acts desk at version
+IsEventAllowed base acts desk (event.Link at list_at version slot to) = IsLinkAllowed base acts desk at list_at version slot to
+IsEventAllowed base acts desk (event.Relist at list_at version lists) = IsRelistAllowed base acts desk at list_at version lists
+IsEventAllowed base acts desk (event.Drop at version gone) = IsDropAllowed base acts desk at version gone
+IsEventAllowed base acts desk (event.Mark at list_at version) = IsMarkAllowed base acts desk at list_at version
+IsEventAllowed base acts desk (event.Entry to level) = IsEntryAllowed base acts desk to level
+IsEventAllowed base acts desk (event.Hint block) = IsHintAllowed base acts desk block
+IsEventAllowed base acts desk (event.IvfAdd block id bits) = ⊥
+IsEventAllowed base acts desk (event.IvfGrow list last block id bits) = ⊥
+IsEventAllowed base acts desk (event.IvfDrop block gone) = ⊥
+IsEventAllowed base acts desk (event.IvfHint list block) = ⊥
+IsEventAllowed base acts desk (event.Gate gate hold) = IsGateAllowed acts desk gate hold
+IsEventAllowed base acts desk (event.Ungate gate) = IsUngateAllowed acts desk gate
+IsEventAllowed base acts desk (event.Phase stage) = IsPhaseAllowed base acts desk stage
+IsEventAllowed base acts desk event.VacuumEnd = IsVacuumEndAllowed base acts desk
+IsEventAllowed base acts desk (event.Cancel stage) = IsCancelAllowed base acts desk stage
+IsEventAllowed base acts desk (event.Settled upto) = IsSettledAllowed acts upto
+IsEventAllowed base acts desk (event.DiskFaulted count) = IsFaultAllowed acts count

@@ -1,0 +1,125 @@
+//! What the definitions of the graph and of its histories mean: laws, and no work.
+
+ghost use Rattle.std.specs.Prelude.{◌≡◌, ◌≢◌, ◌⊎◌, ℕ, ◌++◌, ◌∷◌, [], true, false, take, slice_get, Some, None, List, Bool, Option, ◌≤◌, ◌↔◌, length, Contains};
+ghost use Rattle.vec_names.specs.declared.tid.Tid.{Tid as Tids};
+ghost use Rattle.vec_event.specs.declared.event.Act.{Act};
+ghost use Rattle.vec_event.specs.declared.gate.Gate.{Gate as Gates};
+ghost use Rattle.vec_event.specs.declared.gate.Hold.{Hold as Holding};
+ghost use Rattle.vec_event.specs.declared.gate.Hold.TheVariants.{Alone};
+ghost use Rattle.vec_names.specs.declared.heap_id.HeapId.{HeapId as HeapIds};
+ghost use Rattle.vec_graph.specs.declared.graph.Graph.{Graph as Graphs};
+ghost use Rattle.vec_graph.specs.declared.node.Node.{Node};
+ghost use Rattle.vec_graph.specs.Graph.{IsLive, IsDoomed, HasLevel, IsMember, layer_slots, slot_layer, entries};
+ghost use Rattle.vec_graph.specs.Effect.{effect, after, state_after, kept, next_version, AreIdsChanged};
+ghost use Rattle.vec_graph.specs.Holding.{HoldsAs, HoldsSince};
+ghost use Rattle.vec_event.specs.declared.stage.Stage.{Stage as Stages};
+ghost use Rattle.vec_graph.specs.Phases.{PhaseSince};
+ghost use Rattle.vec_graph.specs.Places.{new_place, element_need, list_need, fits_one_page, IsOnBlocks, IsFree};
+ghost use Rattle.vec_graph.specs.Rules.{IsPutAllowed, most_level};
+ghost use Rattle.vec_graph.specs.Legal.{IsAllowed, IsLegal};
+ghost use Rattle.vec_graph.specs.Examples.{first_insert, idle_vacuum};
+ghost use Rattle.std.specs.FinMap as map;
+
+use crate::graph::Graph;
+use vec_event::Act;
+
+/// A law, and no work. Each act of a legal history is allowed after the acts before it, so what is cut off
+/// anywhere is legal too; and an act that is allowed makes a longer legal history.
+pub fn law_cut(base: &Graph, acts: &[Act])
+    requires { IsLegal base.now acts.now }
+    ensures cut { (n : ℕ) → IsLegal base.now (take n acts.now) }
+    ensures each { (n : ℕ) (a : Act) → slice_get acts.now n ≡ Some a → IsAllowed base.now (take n acts.now) a }
+    ensures one_more { (a : Act) → IsAllowed base.now acts.now a → IsLegal base.now (acts.now ++ a ∷ []) }
+{}
+
+/// A law, and no work. While a desk holds a gate alone, no other desk holds it.
+pub fn law_alone(base: &Graph, acts: &[Act])
+    requires { IsLegal base.now acts.now }
+    ensures { (gate : Gates) (hold : Holding) (desk other : ℕ) → other ≢ desk → HoldsAs acts.now desk gate Alone → HoldsAs acts.now other gate hold → ⊥ }
+{}
+
+/// A law, and no work. After any acts a desk holds a gate in one way at most, since one act; and one phase
+/// stands at most, which one desk made by one act.
+pub fn law_one_at_a_time(acts: &[Act])
+    ensures hold { (desk : ℕ) (gate : Gates) (h1 h2 : Holding) (k1 k2 : ℕ) → HoldsSince acts.now desk gate h1 k1 → HoldsSince acts.now desk gate h2 k2
+        → (k1 ≡ k2) × (h1 ≡ h2) }
+    ensures phase { (d1 d2 : ℕ) (s1 s2 : Stages) (k1 k2 : ℕ) → PhaseSince acts.now d1 s1 k1 → PhaseSince acts.now d2 s2 k2
+        → (k1 ≡ k2) × (d1 ≡ d2) × (s1 ≡ s2) }
+{}
+
+/// A law, and no work. The members of a layer, by the layer of each slot, are those that the layer's part
+/// of the slots names.
+pub fn law_layers()
+    ensures { (m level layer : ℕ) (slots : List (Option Tids)) (to : Tids) → 1 ≤ m → layer ≤ level
+        → IsMember m level slots layer to ↔ Contains (layer_slots m level layer slots) (Some to) }
+{}
+
+/// A law, and no work. A node is live, or doomed, or deleted, and not two of these; and one that has
+/// ids and is not deleted is live.
+pub fn law_live()
+    ensures one { (n : Node) → IsLive n ⊎ (IsDoomed n ⊎ (n.deleted ≡ true)) }
+    ensures live_or_doomed { (n : Node) → IsLive n → IsDoomed n → ⊥ }
+    ensures live_or_deleted { (n : Node) → IsLive n → n.deleted ≡ true → ⊥ }
+    ensures doomed_or_deleted { (n : Node) → IsDoomed n → n.deleted ≡ true → ⊥ }
+    ensures with_ids { (n : Node) → n.deleted ≡ false → n.ids ≢ [] → IsLive n }
+{}
+
+/// A law, and no work. After any acts, an act that is allowed and puts no node, joins no id and drops
+/// none leaves the entries as they are.
+pub fn law_entries(base: &Graph, acts: &[Act])
+    ensures { (a : Act) → IsAllowed base.now acts.now a
+        → AreIdsChanged a.event ⊎ (entries (effect 255 a.event (after base.now acts.now)) ≡ entries (after base.now acts.now)) }
+{}
+
+/// A law, and no work. Where the nodes of the base stand on its blocks, they do so after any acts; and a
+/// node is put only where none stands or a deleted one of its level, so it takes no other node's place.
+pub fn law_places(base: &Graph, acts: &[Act])
+    requires { IsOnBlocks base.now }
+    ensures on_blocks { IsOnBlocks (after base.now acts.now) }
+    ensures free { (desk version level : ℕ) (at list_at : Tids) (bits : List Bool) (lists : List (Option Tids))
+        → IsPutAllowed base.now acts.now desk at list_at version level bits lists → IsFree (after base.now acts.now) at level }
+{}
+
+/// A law, and no work. Where the nodes of the base stand on its blocks, a place at which a node stands at
+/// any position of a legal history has one from then on, and of the same level.
+pub fn law_levels(base: &Graph, acts: &[Act])
+    requires legal { IsLegal base.now acts.now }
+    requires on_blocks { IsOnBlocks base.now }
+    ensures { (n level : ℕ) (at : Tids) → HasLevel (state_after base.now acts.now n) at level → HasLevel (after base.now acts.now) at level }
+{}
+
+/// A law, and no work. Worked examples of the definitions.
+pub fn law_examples()
+    // The element of 4 bits has 81 bytes and the list of a node of level 0, where m is 2, has 28, each
+    // rounded up to eights and with an item pointer of 4; they fit one page.
+    ensures small { (g : Graphs) → g.params.bits ≡ 4 → g.params.m ≡ 2 → (element_need g ≡ 92) × (list_need g 0 ≡ 36) × (fits_one_page g 0 ≡ true) }
+
+    // The longest values and lists do not fit one page together.
+    ensures large { (g : Graphs) → g.params.bits ≡ 64000 → g.params.m ≡ 100 → (element_need g ≡ 8084) × (list_need g 0 ≡ 1212) × (fits_one_page g 0 ≡ false) }
+
+    // Of the six slots of a node of level 1, where m is 2, the first two are layer 1's.
+    ensures layers { (slot_layer 2 1 0 ≡ 1) × (slot_layer 2 1 1 ≡ 1) × (slot_layer 2 1 2 ≡ 0) × (slot_layer 2 1 5 ≡ 0) }
+    ensures levels { (most_level 2 ≡ 255) × (most_level 16 ≡ 82) × (most_level 100 ≡ 11) }
+
+    // The mask 5 names the first id and the third.
+    ensures kept_ids { (a b c : HeapIds) → kept 5 (a ∷ b ∷ c ∷ []) ≡ b ∷ [] }
+    ensures versions { (next_version 255 15 ≡ 16) × (next_version 255 255 ≡ 1) × (next_version 15 15 ≡ 1) }
+{}
+
+/// A law, and no work. In an index of one block and with m 2 the first insert, as an index makes it, is a
+/// legal history, with any value of the index's length.
+pub fn law_first_insert(base: &Graph)
+    requires one_block { base.now.blocks ≡ 1 }
+    requires m_2 { base.now.params.m ≡ 2 }
+    ensures { (desk : ℕ) (at list_at : Tids) (id : HeapIds) (bits : List Bool) → length bits ≡ base.now.params.bits
+        → new_place base.now 0 ≡ Some (record { at = at; list_at = list_at; version = 1 })
+        → IsLegal base.now (first_insert desk at list_at id bits) }
+{}
+
+/// A law, and no work. A vacuum of an index that has no node, with its three phases and both barriers, is
+/// a legal history.
+pub fn law_idle_vacuum(base: &Graph)
+    requires no_nodes { base.now.nodes ≡ map.empty }
+    requires no_entry { base.now.entry ≡ None }
+    ensures { (desk : ℕ) → IsLegal base.now (idle_vacuum desk) }
+{}

@@ -1,0 +1,21 @@
+//! The state of an HNSW index, what each event makes of it, and which acts a history of it allows.
+//!
+//! The definitions stand in specs/: `Graph` (nodes, live and doomed ones, members of layers), `Places`
+//! (where a new node may stand), `Effect` (what an event changes), `Holding` (gates, and what a desk
+//! knows), `Phases` (how far a vacuum is), `Rules` (one word for each kind of event), `Legal` and
+//! `Sound`. The functions here are laws of those definitions, and do no work.
+#![tactic(auto)]
+
+mod graph;
+mod law;
+mod node;
+
+pub use graph::Graph;
+pub use law::{
+    law_alone, law_cut, law_entries, law_examples, law_first_insert, law_idle_vacuum, law_layers,
+    law_levels, law_live, law_one_at_a_time, law_places,
+};
+pub use node::Node;
+
+#[cfg(test)]
+mod tests;
