@@ -6,3 +6,4 @@ pub mod Clear
 pub mod RowLaws
 pub mod SlotLaws
 pub mod LinksLaws
+pub mod Loops

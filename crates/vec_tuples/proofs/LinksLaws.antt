@@ -1,5 +1,5 @@
 -- The neighbour tuple is read as it is spelled.
-use Rattle.std.proofs.Common.{◌≡◌, ℕ, zero, suc, ◌+◌, ◌*◌, ◌<◌, ◌≤◌, Bool, true, false, eqb, List, [], ◌∷◌, ◌++◌, length, Option, refl, sym, ap, ap₂, subst, ◌∙◌, arith, lit≤}
+use Rattle.std.proofs.Common.{◌≡◌, ℕ, zero, suc, ◌*◌, ◌≤◌, Bool, true, false, eqb, List, ◌∷◌, ◌++◌, length, Option, refl, sym, ap, ap₂, subst, ◌∙◌, arith, lit≤}
 use Rattle.std.specs.List.{flat_map, AllByRecursion}
 use Rattle.std.specs.Int.{w16, to_le_bytes}
 use Rattle.vec_names.specs.declared.tid.Tid.{Tid}
@@ -10,10 +10,10 @@ use Rattle.vec_names.specs.Params.{IsInRange, IsInRangeOf}
 use Rattle.vec_names.specs.Pointer.{tid_option_bytes}
 use Rattle.vec_tuples.specs.declared.links.Links.{Links}
 use Rattle.vec_tuples.specs.Spelling.{links_kind, links_with, links_bytes, IsSlotCount, IsSlotOf, IsLinks}
-use Rattle.vec_tuples.specs.Reading.{byte_from, times, slot_of, slot_count, links}
+use Rattle.vec_tuples.specs.Reading.{slot_of, links}
 use Rattle.vec_tuples.proofs.FieldLaws.{IsField, viewed_law, after_law, then_law, wider}
 use Rattle.vec_tuples.proofs.EachField.{IsFrom, one_byte, byte_field}
-use Rattle.vec_tuples.proofs.SlotLaws.{slot_field, times_field, count_field, AreSo}
+use Rattle.vec_tuples.proofs.SlotLaws.{slot_field, times_field, count_field}
 
 few_slots : (k : Kind) (p : Params) → IsInRangeOf k p → p.m ≤ 100
 few_slots Hnsw p r = r.m_high
@@ -48,13 +48,16 @@ unfolding links
 links_field p r =
     viewed_law _ _
     (after_law (byte_field 2 3 (lit≤ tt)) (λ k _. then_law (byte_field 1 255 (lit≤ tt))
-        (after_law (count_field p.m (few_slots p.kind p r.of_kind)) (λ n q. wider (n * 6) 8148 (omega (arith, q.0)) (times_field (slot_of (eqb k 3)) tid_option_bytes (IsSlotOf (eqb k 3)) 6 (slot_field (eqb k 3)) n)))))
+    (after_law (count_field p.m (few_slots p.kind p r.of_kind)) (λ n q. wider (n * 6) 8148 (omega (arith, q.0)) (times_field (slot_of (eqb k 3)) tid_option_bytes (IsSlotOf (eqb k 3)) 6 (slot_field (eqb k 3)) n)))))
     links_bytes (IsLinks p)
     (λ l fits.
-        let slots : AllByRecursion (IsSlotOf (eqb (links_kind l.deleted) 3)) l.tids = subst (λ d. AllByRecursion (IsSlotOf d) l.tids) (sym (kind_back l.deleted)) fits.slots in
-        ((links_kind l.deleted, (l.version, (length l.tids, l.tids))), same_links l,
-        (kind_in_range l.deleted, ((fits.version_low, fits.version_high), (fits.count, (refl, slots)))),
-        ap links_bytes (sym (same_links l)) ∙ links_text (links_kind l.deleted) l.version (length l.tids) l.tids (kind_in_range l.deleted) refl))
-    (λ w f.
-        (record { version_low = f.1.0.0; version_high = f.1.0.1; count = subst (IsSlotCount p.m) (sym f.1.1.1.0) f.1.1.0; slots = f.1.1.1.1 },
-        links_text w.0 w.1.0 w.1.1.0 w.1.1.1 f.0 f.1.1.1.0))
+    let slots : AllByRecursion (IsSlotOf (eqb (links_kind l.deleted) 3)) l.tids = subst (λ d. AllByRecursion (IsSlotOf d) l.tids) (sym (kind_back l.deleted)) fits.slots in (
+      (links_kind l.deleted, (l.version, (length l.tids, l.tids))),
+      same_links l,
+      (kind_in_range l.deleted, ((fits.version_low, fits.version_high), (fits.count, (refl, slots)))),
+      ap links_bytes (sym (same_links l)) ∙ links_text (links_kind l.deleted) l.version (length l.tids) l.tids (kind_in_range l.deleted) refl,
+    ))
+    (λ w f. (
+      record { version_low = f.1.0.0; version_high = f.1.0.1; count = subst (IsSlotCount p.m) (sym f.1.1.1.0) f.1.1.0; slots = f.1.1.1.1 },
+      links_text w.0 w.1.0 w.1.1.0 w.1.1.1 f.0 f.1.1.1.0,
+    ))

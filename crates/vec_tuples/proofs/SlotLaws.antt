@@ -1,14 +1,15 @@
 -- The slots of a neighbour tuple are read as they are spelled.
-use Rattle.std.proofs.Common.{◌≡◌, ℕ, zero, suc, ◌+◌, ◌*◌, ◌/◌, ◌-◌, ◌<◌, ◌≤◌, Bool, true, false, List, [], ◌∷◌, ◌++◌, length, take, Option, Some, None, refl, sym, ap, subst, ◌∙◌, arith, lit≤}
+use Rattle.std.proofs.Common.{◌≡◌, ◌≢◌, ℕ, zero, suc, ◌+◌, ◌*◌, ◌/◌, ◌%◌, ◌-◌, ◌≤◌, Bool, true, false, List, [], ◌∷◌, ◌++◌, length, refl, sym, ap, subst, ◌∙◌, arith, lit≤}
+use Rattle.std.specs.Prelude.{nat_le, ◌&&◌, ◌==◌}
 use Rattle.std.specs.List.{flat_map, AllByRecursion}
 use Rattle.std.proofs.lemmas.List.Concat.{flat_map-cons}
-use Rattle.vec_names.specs.declared.tid.Tid.{Tid}
 use Rattle.vec_names.specs.Pointer.{tid_option_bytes}
 use Rattle.std.specs.Int.{w16, to_le_bytes, from_le_bytes}
 use Rattle.std.proofs.lemmas.Bool.{and_parts, and_from, leb-true, le-leb, eqb-true, eq-eqb}
 use Rattle.std.proofs.lemmas.Nat.{div-mul-add, le_bytes_2, from_le_bytes-to_le_bytes_2}
+use Rattle.std.proofs.Math.Nat.{div-add-mod, mul-mod_left}
 use Rattle.vec_tuples.specs.Spelling.{IsSlotOf, IsSlotCount}
-use Rattle.vec_tuples.specs.Reading.{Got, Reader, field, only_if, times, slot_of, is_slot_count, slot_count}
+use Rattle.vec_tuples.specs.Reading.{Got, Reader, only_if, times, slot_of, is_slot_count, slot_count}
 use Rattle.vec_tuples.proofs.FieldLaws.{IsField, field_law, got_is, got_not_bad, next_law, wider}
 use Rattle.vec_tuples.proofs.EachField.{told_only, allowed, optional_field, none_field}
 
@@ -53,6 +54,9 @@ module _ {A : Type 0} where
 
 -- ---- how many slots
 
+whole_of : (m count : ℕ) → count % m ≡ 0 → count ≡ count / m * m
+whole_of m count r = sym (div-add-mod count m) ∙ ap (λ n. m * (count / m) + n) r ∙ omega arith
+
 slots_told : (m count : ℕ) → is_slot_count m count ≡ true → IsSlotCount m count
 unfolding is_slot_count
 slots_told zero count t = let e = eqb-true count 0 t in (omega (arith, e), 0, omega arith, omega (arith, e))
@@ -60,11 +64,11 @@ slots_told (suc k) count t =
     let a = and_parts _ _ t in
     let b = and_parts _ _ a.1 in
     let c = and_parts _ _ b.1 in
-    let q = count / suc k in
+    let q : ℕ = count / suc k in
     let low : 2 ≤ q = leb-true 2 q b.0 in
     let high : q ≤ 257 = leb-true q 257 c.0 in
     let level : q ≡ (q - 2) + 2 = omega (arith, low) in
-    (leb-true count 1358 a.0, q - 2, omega (arith, high), sym (eqb-true (q * suc k) count c.1) ∙ ap (λ n. n * suc k) level)
+    (leb-true count 1358 a.0, q - 2, omega (arith, high), whole_of (suc k) count (eqb-true (count % suc k) 0 c.1) ∙ ap (λ n. n * suc k) level)
 
 slots_tell : (m count : ℕ) → IsSlotCount m count → is_slot_count m count ≡ true
 unfolding is_slot_count
@@ -75,7 +79,7 @@ slots_tell (suc k) count p =
     let q : count / suc k ≡ level + 2 = ap (λ n. n / suc k) whole ∙ div-mul-add (level + 2) (suc k) 0 (omega arith) in
     and_from _ _ (le-leb count 1358 p.0)
     (and_from _ _ (le-leb 2 (count / suc k) (omega (arith, q)))
-      (and_from _ _ (le-leb (count / suc k) 257 (omega (arith, q, p.2))) (eq-eqb (count / suc k * suc k) count (ap (λ n. n * suc k) q ∙ sym p.3))))
+    (and_from _ _ (le-leb (count / suc k) 257 (omega (arith, q, p.2))) (eq-eqb (count % suc k) 0 (ap (λ n. n % suc k) p.3 ∙ mul-mod_left (level + 2) (suc k)))))
 
 pub count_field : (m : ℕ) → m ≤ 100 → IsField (slot_count m) (to_le_bytes w16) (IsSlotCount m) 2
 unfolding slot_count
@@ -88,3 +92,13 @@ count_field m few = field_law 2 (λ b. only_if (is_slot_count m (from_le_bytes w
       let t = told_only (is_slot_count m (from_le_bytes w16 bytes)) (from_le_bytes w16 bytes) v is in
       (sym (le_bytes_2 bytes v len bs (sym t.1)), subst (IsSlotCount m) t.1 (slots_told m (from_le_bytes w16 bytes) t.0));
 })
+
+-- the test, as it is made where m is not 0
+pub slot_count_at : (m count : ℕ) → m ≢ 0 → is_slot_count m count ≡ (nat_le count 1358 && (nat_le 2 (count / m) && (nat_le (count / m) 257 && (count % m == 0))))
+unfolding is_slot_count
+slot_count_at zero count some = absurd (some refl)
+slot_count_at (suc k) count some = refl
+
+pub slot_count_none : (m count : ℕ) → m ≡ 0 → is_slot_count m count ≡ (count == 0)
+unfolding is_slot_count
+slot_count_none m count none = rw none refl

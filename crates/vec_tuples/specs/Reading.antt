@@ -1,6 +1,6 @@
 -- Reading a tuple from left to right, field by field, up to the first whose value no tuple with the same earlier
 -- fields has.
-use Rattle.std.specs.Prelude.{ℕ, zero, suc, true, false, ◌+◌, ◌*◌, ◌/◌, Bool, not, ◌&&◌, nat_lt, nat_le, ◌==◌, if◌then◌else◌, List, [], ◌∷◌, length, take, drop, slice_index, Option, Some, None}
+use Rattle.std.specs.Prelude.{ℕ, zero, suc, true, false, ◌+◌, ◌*◌, ◌/◌, ◌%◌, Bool, not, ◌&&◌, nat_lt, nat_le, ◌==◌, if◌then◌else◌, List, [], ◌∷◌, length, take, drop, slice_index, Option, Some, None}
 use Rattle.std.specs.List.{list_all}
 use Rattle.std.specs.Int.{w16, w32, from_le_bytes}
 use Rattle.vec_names.specs.declared.tid.Tid.{Tid}
@@ -189,7 +189,7 @@ slot_of true = no_place
 -- whether there may be so many slots
 unfoldable pub is_slot_count : ℕ → ℕ → Bool
 is_slot_count zero count = count == 0
-is_slot_count (suc k) count = nat_le count 1358 && (nat_le 2 (count / suc k) && (nat_le (count / suc k) 257 && (count / suc k * suc k == count)))
+is_slot_count (suc k) count = nat_le count 1358 && (nat_le 2 (count / suc k) && (nat_le (count / suc k) 257 && (count % suc k == 0)))
 
 unfoldable pub slot_count : ℕ → Reader ℕ
 slot_count m = field 2 (λ b. only_if (is_slot_count m (from_le_bytes w16 b)) (from_le_bytes w16 b))

@@ -12,11 +12,12 @@ mod meta;
 mod parameters;
 mod pieces;
 mod refused;
+mod slots;
 
 pub use centre::{CentreTuple, read_centre, set_aim, write_centre};
 pub use entry::{EntryRow, fill_entry, read_entry, write_entry};
 pub use fault::TupleFault;
-pub use links::Links;
+pub use links::{Links, read_list, write_list};
 pub use meta::{Meta, fill_meta, read_meta, write_meta};
 
 #[cfg(test)]

@@ -211,3 +211,103 @@ fn damaged_entries_and_centres_by_place(rt: HostRuntime) {
         Some(TupleFault::Bad { at: 21 })
     );
 }
+
+/// A graph of four places with m 2.
+const SMALL: Params = Params {
+    kind: Kind::Hnsw,
+    ops: Ops::Hamming,
+    bits: 4,
+    m: 2,
+    ef: 4,
+    lists: 0,
+};
+
+/// The four slots of an element of level 0 and version 1, of which the first names 1/3.
+const LINKS: [u8; 28] = [
+    2, 1, 4, 0, 0, 0, 1, 0, 3, 0, 255, 255, 255, 255, 0, 0, 255, 255, 255, 255, 0, 0, 255, 255,
+    255, 255, 0, 0,
+];
+
+fn links_fault(alloc: Global, bytes: &[u8]) -> Option<TupleFault> {
+    let params = SMALL;
+    if !params.check() {
+        return None;
+    }
+    match read_list(alloc, bytes, &params) {
+        Ok(_) => None,
+        Err(fault) => Some(fault),
+    }
+}
+
+#[test]
+fn links_there_and_back(rt: HostRuntime) -> Result<(), TupleFault> {
+    let params = SMALL;
+    assert!(rt; params.check());
+    let links = read_list(rt.alloc(), &LINKS, &params)?;
+    assert!(rt; !links.deleted && links.version == 1 && links.tids.len() == 4);
+    assert!(rt; links.tids.as_slice().first() == Some(&Tid::new(1, 3)));
+    assert!(rt; links.tids.as_slice().last() == Some(&None));
+    let mut written = Vec::new(rt.alloc());
+    if links.tids.len() < 65_536 {
+        write_list(&links, &mut written)?;
+    }
+    assert!(rt; written.as_slice() == LINKS.as_slice());
+
+    // The most slots: of an element of level 12 where m is 97, deleted.
+    let mut bytes = Vec::new(rt.alloc());
+    bytes.extend_from_slice(&[3, 255, 78, 5])?;
+    for _ in 0..1_358 {
+        bytes.extend_from_slice(&[255, 255, 255, 255, 0, 0])?;
+    }
+    let wide = Params {
+        kind: Kind::Hnsw,
+        ops: Ops::Hamming,
+        bits: 4,
+        m: 97,
+        ef: 194,
+        lists: 0,
+    };
+    assert!(rt; wide.check());
+    let most = read_list(rt.alloc(), bytes.as_slice(), &wide)?;
+    assert!(rt; most.deleted && most.version == 255 && most.tids.len() == 1_358);
+    Ok(())
+}
+
+#[test]
+fn damaged_links_by_place(rt: HostRuntime) {
+    for (place, byte, at) in [
+        (0, 1, 0),
+        (0, 4, 0),
+        (0, 3, 4),
+        (1, 0, 1),
+        (2, 2, 2),
+        (2, 5, 2),
+        (3, 6, 2),
+        (2, 6, 28),
+        (8, 0, 4),
+        (14, 1, 10),
+        (24, 0, 22),
+    ] {
+        let mut bytes = LINKS;
+        if let Some(there) = bytes.get_mut(place) {
+            *there = byte;
+        }
+        assert_eq!(rt;
+            links_fault(rt.alloc(), &bytes),
+            Some(TupleFault::Bad { at })
+        );
+    }
+    for cut in 0..28 {
+        let at = if cut < 2 {
+            cut as u16
+        } else if cut < 4 {
+            2
+        } else {
+            ((cut - 4) / 6 * 6 + 4) as u16
+        };
+        assert_eq!(rt;
+            links_fault(rt.alloc(), &LINKS[..cut]),
+            Some(TupleFault::Bad { at })
+        );
+    }
+}
