@@ -17,8 +17,11 @@ use Rattle.vec_graph.specs.declared.graph.Graph.{Graph}
 use Rattle.vec_graph.specs.Graph.{IsMember}
 use Rattle.vec_graph.specs.Places.{new_place, fits_one_page}
 use Rattle.vec_graph.specs.Effect.{after}
-use Rattle.vec_graph.specs.Holding.{act_of, IsOfGate, HoldsSince}
-use Rattle.vec_graph.specs.Rules.{IsGateAllowed, IsPutAllowed, IsEntryAtAllowed, IsUngateAllowed}
+use Rattle.vec_history.specs.Acts.{act_of}
+use Rattle.vec_history.specs.Gates.{IsOfGate, HoldsSince}
+use Rattle.vec_history.specs.Gates.{IsGateAllowed}
+use Rattle.vec_graph.specs.Rules.{IsPutAllowed, IsEntryAtAllowed}
+use Rattle.vec_history.specs.Phases.{IsUngateAllowed}
 use Rattle.vec_graph.specs.Legal.{IsLegal}
 use Rattle.vec_graph.specs.Examples.{first_insert}
 

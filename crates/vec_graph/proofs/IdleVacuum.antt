@@ -10,9 +10,13 @@ use Rattle.vec_event.specs.declared.gate.Gate.TheVariants.{Update, Scan, Vacuum}
 use Rattle.vec_event.specs.declared.gate.Hold.TheVariants.{Alone}
 use Rattle.vec_event.specs.declared.stage.Stage.TheVariants.{Remove, Repair, Mark}
 use Rattle.vec_graph.specs.declared.graph.Graph.{Graph}
-use Rattle.vec_graph.specs.Holding.{act_of, IsOfGate, HoldsSince, NoneAfter}
-use Rattle.vec_graph.specs.Phases.{IsOfVacuum, IsAPhaseStanding, IsLastBarrier, IsDrop, IsRemoved, IsRepaired}
-use Rattle.vec_graph.specs.Rules.{IsGateAllowed, IsUngateAllowed, IsPhaseRemoveAllowed, IsVacuumEndAllowed}
+use Rattle.vec_history.specs.Acts.{act_of, NoneAfter}
+use Rattle.vec_history.specs.Gates.{IsOfGate, HoldsSince}
+use Rattle.vec_history.specs.Phases.{IsOfVacuum, IsAPhaseStanding, IsLastBarrier, IsDrop, IsRemoved}
+use Rattle.vec_graph.specs.Cleaning.{IsRepaired}
+use Rattle.vec_history.specs.Gates.{IsGateAllowed}
+use Rattle.vec_history.specs.Phases.{IsUngateAllowed, IsPhaseRemoveAllowed}
+use Rattle.vec_graph.specs.Rules.{IsVacuumEndAllowed}
 use Rattle.vec_graph.specs.Legal.{IsLegal}
 use Rattle.vec_graph.specs.Examples.{idle_vacuum}
 use Rattle.vec_graph.proofs.Placing.{none_on_empty}

@@ -3,6 +3,5 @@ pub mod Entries
 pub mod Placing
 pub mod Levels
 pub mod Layers
-pub mod OneAtATime
 pub mod FirstInsert
 pub mod IdleVacuum

@@ -7,7 +7,7 @@ use Rattle.vec_event.specs.declared.event.Act.{Act}
 use Rattle.vec_event.specs.declared.gate.Gate.TheVariants.{Update, Scan, Vacuum}
 use Rattle.vec_event.specs.declared.gate.Hold.TheVariants.{Alone}
 use Rattle.vec_event.specs.declared.stage.Stage.TheVariants.{Remove, Repair, Mark}
-use Rattle.vec_graph.specs.Holding.{act_of}
+use Rattle.vec_history.specs.Acts.{act_of}
 
 -- what a desk does to put the first node, of level 0, where m is 2
 abbrev pub first_insert : ℕ → Tid → Tid → HeapId → List Bool → List Act

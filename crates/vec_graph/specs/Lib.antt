@@ -1,8 +1,8 @@
 pub mod Graph
 pub mod Places
 pub mod Effect
-pub mod Holding
-pub mod Phases
+pub mod Knowing
+pub mod Cleaning
 pub mod Rules
 pub mod Legal
 pub mod Sound

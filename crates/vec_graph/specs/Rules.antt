@@ -1,43 +1,25 @@
 -- Which event a desk may make after a list of acts: one word for each kind of event. A base is the graph that the acts begin at.
-use Rattle.std.specs.Prelude.{◌≡◌, ℕ, ◌+◌, ◌-◌, ◌/◌, ◌<◌, ◌≤◌, ◌^◌, ◌≢◌, ◌⊎◌, min, Bool, true, false, List, length, count_by, slice_get, Option, Some, None}
+use Rattle.std.specs.Prelude.{◌≡◌, ℕ, ◌+◌, ◌-◌, ◌/◌, ◌<◌, ◌≤◌, ◌^◌, ◌≢◌, ◌⊎◌, min, Bool, false, List, length, Option, Some, None}
 use Rattle.vec_names.specs.declared.tid.Tid.{Tid}
 use Rattle.vec_event.specs.declared.event.Event.{Event}
 use Rattle.vec_event.specs.declared.event.Event.TheVariants as event
 use Rattle.vec_event.specs.declared.event.Act.{Act}
-use Rattle.vec_event.specs.declared.gate.Gate.{Gate}
 use Rattle.vec_event.specs.declared.gate.Gate.TheVariants.{Update, Vacuum}
-use Rattle.vec_event.specs.declared.gate.Hold.{Hold}
-use Rattle.vec_event.specs.declared.gate.Hold.TheVariants.{Shared, Alone}
+use Rattle.vec_event.specs.declared.gate.Hold.TheVariants.{Alone}
 use Rattle.vec_event.specs.declared.stage.Stage.{Stage}
 use Rattle.vec_event.specs.declared.stage.Stage.TheVariants.{Remove, Repair, Mark}
+use Rattle.vec_history.specs.Gates.{Holds, HoldsAs, IsGateAllowed}
+use Rattle.vec_history.specs.Phases.{IsInPhase, IsUngateAllowed, IsPhaseRemoveAllowed, IsPhaseRepairAllowed}
+use Rattle.vec_history.specs.Settling.{IsSettledAllowed, IsFaultAllowed}
 use Rattle.vec_graph.specs.declared.node.Node.{Node}
 use Rattle.vec_graph.specs.declared.graph.Graph.{Graph}
 use Rattle.vec_graph.specs.Graph.{node_at, IsLiveAt, IsDoomed, IsDoomedAt, slots_of_level, slot_layer, IsMember}
 use Rattle.vec_graph.specs.Places.{Spot, place_on, new_place, new_blocks}
 use Rattle.vec_graph.specs.Effect.{after}
-use Rattle.vec_graph.specs.Holding.{act_of, Holds, HoldsAs, Knows}
-use Rattle.vec_graph.specs.Phases.{IsInPhase, IsAPhaseStanding, IsRemoved, IsRepaired}
-
--- ---- gates
-
--- The desk does not hold the gate; and either no other desk does, or this hold and all others are Shared.
-pub record IsGateAllowed (acts : List Act) (desk : ℕ) (gate : Gate) (hold : Hold) : Type 0 where
-  pub not_held : Holds acts desk gate → ⊥
-  pub beside : (other : ℕ) (theirs : Hold) → other ≢ desk → HoldsAs acts other gate theirs → (hold ≡ Shared) × (theirs ≡ Shared)
-
--- The desk holds the gate; the gate of vacuums stays held while a phase stands.
-pub record IsUngateAllowed (acts : List Act) (desk : ℕ) (gate : Gate) : Type 0 where
-  pub held : Holds acts desk gate
-  pub no_phase : gate ≡ Vacuum → IsAPhaseStanding acts → ⊥
+use Rattle.vec_graph.specs.Knowing.{Knows}
+use Rattle.vec_graph.specs.Cleaning.{IsRepaired}
 
 -- ---- phases
-
-pub record IsPhaseRemoveAllowed (acts : List Act) (desk : ℕ) : Type 0 where
-  pub alone : HoldsAs acts desk Vacuum Alone
-  pub no_phase : IsAPhaseStanding acts → ⊥
-
-abbrev pub IsPhaseRepairAllowed : List Act → ℕ → Type 0
-IsPhaseRepairAllowed acts desk = (position : ℕ) × IsRemoved acts desk position
 
 abbrev pub IsPhaseMarkAllowed : Graph → List Act → ℕ → Type 0
 IsPhaseMarkAllowed base acts desk = IsRepaired base acts desk
@@ -154,31 +136,6 @@ pub record IsHintAllowed (base : Graph) (acts : List Act) (desk block : ℕ) : T
   pub holds : Holds acts desk Update ⊎ Holds acts desk Vacuum
   pub counted_from_1 : 1 ≤ block
   pub within : block ≤ (after base acts).blocks
-
--- ---- settling and faults
-
--- a lasting event goes to the log; a passing one does not
-abbrev pub is_lasting : Event → Bool
-is_lasting (event.Gate gate hold) = false
-is_lasting (event.Ungate gate) = false
-is_lasting (event.Phase stage) = false
-is_lasting event.VacuumEnd = false
-is_lasting (event.Cancel stage) = false
-is_lasting (event.Settled upto) = false
-is_lasting (event.DiskFaulted count) = false
-is_lasting _ = true
-
-abbrev pub lasting_events : List Act → ℕ
-lasting_events acts = count_by (λ a. is_lasting a.event) acts
-
--- Not more events are settled than there are, and not fewer than before.
-pub record IsSettledAllowed (acts : List Act) (upto : ℕ) : Type 0 where
-  pub not_more : upto ≤ lasting_events acts
-  pub not_fewer : (k desk before : ℕ) → slice_get acts k ≡ Some (act_of desk (event.Settled before)) → before ≤ upto
-
--- Each fault is a further one.
-abbrev pub IsFaultAllowed : List Act → ℕ → Type 0
-IsFaultAllowed acts count = (k desk before : ℕ) → slice_get acts k ≡ Some (act_of desk (event.DiskFaulted before)) → before < count
 
 -- ---- all events
 

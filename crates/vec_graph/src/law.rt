@@ -11,9 +11,7 @@ ghost use Rattle.vec_graph.specs.declared.graph.Graph.{Graph as Graphs};
 ghost use Rattle.vec_graph.specs.declared.node.Node.{Node};
 ghost use Rattle.vec_graph.specs.Graph.{IsLive, IsDoomed, HasLevel, IsMember, layer_slots, slot_layer, entries};
 ghost use Rattle.vec_graph.specs.Effect.{effect, after, state_after, kept, next_version, AreIdsChanged};
-ghost use Rattle.vec_graph.specs.Holding.{HoldsAs, HoldsSince};
-ghost use Rattle.vec_event.specs.declared.stage.Stage.{Stage as Stages};
-ghost use Rattle.vec_graph.specs.Phases.{PhaseSince};
+ghost use Rattle.vec_history.specs.Gates.{HoldsAs};
 ghost use Rattle.vec_graph.specs.Places.{new_place, element_need, list_need, fits_one_page, IsOnBlocks, IsFree};
 ghost use Rattle.vec_graph.specs.Rules.{IsPutAllowed, most_level};
 ghost use Rattle.vec_graph.specs.Legal.{IsAllowed, IsLegal};
@@ -36,15 +34,6 @@ pub fn law_cut(base: &Graph, acts: &[Act])
 pub fn law_alone(base: &Graph, acts: &[Act])
     requires { IsLegal base.now acts.now }
     ensures { (gate : Gates) (hold : Holding) (desk other : ℕ) → other ≢ desk → HoldsAs acts.now desk gate Alone → HoldsAs acts.now other gate hold → ⊥ }
-{}
-
-/// A law, and no work. After any acts a desk holds a gate in one way at most, since one act; and one phase
-/// stands at most, which one desk made by one act.
-pub fn law_one_at_a_time(acts: &[Act])
-    ensures hold { (desk : ℕ) (gate : Gates) (h1 h2 : Holding) (k1 k2 : ℕ) → HoldsSince acts.now desk gate h1 k1 → HoldsSince acts.now desk gate h2 k2
-        → (k1 ≡ k2) × (h1 ≡ h2) }
-    ensures phase { (d1 d2 : ℕ) (s1 s2 : Stages) (k1 k2 : ℕ) → PhaseSince acts.now d1 s1 k1 → PhaseSince acts.now d2 s2 k2
-        → (k1 ≡ k2) × (d1 ≡ d2) × (s1 ≡ s2) }
 {}
 
 /// A law, and no work. The members of a layer, by the layer of each slot, are those that the layer's part

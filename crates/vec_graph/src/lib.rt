@@ -13,7 +13,7 @@ mod node;
 pub use graph::Graph;
 pub use law::{
     law_alone, law_cut, law_entries, law_examples, law_first_insert, law_idle_vacuum, law_layers,
-    law_levels, law_live, law_one_at_a_time, law_places,
+    law_levels, law_live, law_places,
 };
 pub use node::Node;
 

@@ -27,7 +27,6 @@ fn laws_before_any_act(rt: HostRuntime) {
     law_entries(&base, &acts);
     law_places(&base, &acts);
     law_levels(&base, &acts);
-    law_one_at_a_time(&acts);
     law_layers();
     law_live();
     law_examples();

@@ -1,5 +1,5 @@
-use Rattle.vec_graph.proofs.OneAtATime.{one_hold, one_phase}
-use Rattle.vec_graph.proofs.law.law_one_at_a_time.Goals as goal
+use Rattle.vec_history.proofs.OneAtATime.{one_hold, one_phase}
+use Rattle.vec_history.proofs.law.law_one_at_a_time.Goals as goal
 
 pub returns-clause-hold : goal.returns-clause-hold
 returns-clause-hold c = one_hold c.args.acts.now

@@ -7,9 +7,10 @@ use Rattle.vec_event.specs.declared.event.Act.{Act}
 use Rattle.vec_event.specs.declared.gate.Gate.{Gate}
 use Rattle.vec_event.specs.declared.gate.Hold.{Hold}
 use Rattle.vec_event.specs.declared.stage.Stage.{Stage}
-use Rattle.vec_graph.specs.Holding.{HoldsSince, act_of}
-use Rattle.vec_graph.specs.Phases.{PhaseSince}
-use Rattle.vec_graph.proofs.Prefixes.{in_order}
+use Rattle.vec_history.specs.Gates.{HoldsSince}
+use Rattle.vec_history.specs.Acts.{act_of}
+use Rattle.vec_history.specs.Phases.{PhaseSince}
+use Rattle.vec_history.proofs.Parts.{in_order}
 
 hold_of : Hold → Event → Hold
 hold_of default (event.Gate gate hold) = hold

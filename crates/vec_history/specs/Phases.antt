@@ -1,18 +1,15 @@
--- How far a vacuum is: the phase that stands, and the two barriers between its passes.
-use Rattle.std.specs.Prelude.{◌≡◌, ℕ, ◌+◌, ◌<◌, ◌≤◌, ⊤, List, take, Some}
-use Rattle.vec_names.specs.declared.tid.Tid.{Tid}
+-- How far a vacuum is: the phase that stands, and the barriers between its passes.
+use Rattle.std.specs.Prelude.{◌≡◌, ℕ, ◌+◌, ◌<◌, ⊤, List}
 use Rattle.vec_event.specs.declared.event.Event.{Event}
 use Rattle.vec_event.specs.declared.event.Event.TheVariants as event
 use Rattle.vec_event.specs.declared.event.Act.{Act}
 use Rattle.vec_event.specs.declared.gate.Gate.{Gate}
-use Rattle.vec_event.specs.declared.gate.Gate.TheVariants.{Update, Scan}
+use Rattle.vec_event.specs.declared.gate.Gate.TheVariants.{Update, Vacuum}
 use Rattle.vec_event.specs.declared.gate.Hold.TheVariants.{Alone}
 use Rattle.vec_event.specs.declared.stage.Stage.{Stage}
-use Rattle.vec_event.specs.declared.stage.Stage.TheVariants.{Remove, Repair}
-use Rattle.vec_graph.specs.declared.graph.Graph.{Graph}
-use Rattle.vec_graph.specs.Graph.{IsLiveAt, IsDoomedAt, HasMember}
-use Rattle.vec_graph.specs.Effect.{state_after}
-use Rattle.vec_graph.specs.Holding.{IsActAt, NoneAfter}
+use Rattle.vec_event.specs.declared.stage.Stage.TheVariants.{Remove}
+use Rattle.vec_history.specs.Acts.{IsActAt, NoneAfter}
+use Rattle.vec_history.specs.Gates.{Holds, HoldsAs}
 
 -- ---- the phase
 
@@ -65,33 +62,16 @@ pub record IsRemoved (acts : List Act) (desk position : ℕ) : Type 0 where
   pub drops_before : NoneAfter acts barrier (λ a. IsDrop a.event)
   pub here : position ≡ barrier + 1
 
--- no member of this layer of the node at this place is doomed
-abbrev pub IsCleanAt : Graph → Tid → ℕ → Type 0
-IsCleanAt g at layer = (to : Tid) → HasMember g at layer to → IsDoomedAt g to → ⊥
+-- ---- rules
 
--- the entry point is none, or not doomed
-abbrev pub IsEntryClean : Graph → Type 0
-IsEntryClean g = (to : Tid) → g.entry ≡ Some to → IsDoomedAt g to → ⊥
+-- The desk holds the gate; the gate of vacuums stays held while a phase stands.
+pub record IsUngateAllowed (acts : List Act) (desk : ℕ) (gate : Gate) : Type 0 where
+  pub held : Holds acts desk gate
+  pub no_phase : gate ≡ Vacuum → IsAPhaseStanding acts → ⊥
 
--- it is so at some position from low to high
-pub record SomeState (base : Graph) (acts : List Act) (low high : ℕ) (P : Graph → Type 0) : Type 0 where
-  pub position : ℕ
-  pub from_low : low ≤ position
-  pub to_high : position ≤ high
-  pub is : P (state_after base acts position)
+pub record IsPhaseRemoveAllowed (acts : List Act) (desk : ℕ) : Type 0 where
+  pub alone : HoldsAs acts desk Vacuum Alone
+  pub no_phase : IsAPhaseStanding acts → ⊥
 
--- between these positions each layer of each node that was live at the first was clean at some position, and so was the entry point
-pub record WereCleaned (base : Graph) (acts : List Act) (low high : ℕ) : Type 0 where
-  pub layers : (at : Tid) (layer : ℕ) → IsLiveAt (state_after base acts low) at layer → SomeState base acts low high (λ g. IsCleanAt g at layer)
-  pub entry : SomeState base acts low high IsEntryClean
-
--- Repairing is done: the desk's phase Repair stands, and after its act the desk took Scan alone, and has released it. From the position of
--- its barrier of Update to right before the last such Gate all was cleaned at some time. Whoever holds Scan from then on began behind that.
-pub record IsRepaired (base : Graph) (acts : List Act) (desk : ℕ) : Type 0 where
-  pub begun : ℕ
-  pub phase : PhaseSince acts desk Repair begun
-  pub first : ℕ
-  pub removed : IsRemoved (take begun acts) desk first
-  pub barrier : ℕ
-  pub scan : IsLastBarrier acts desk Scan begun barrier
-  pub cleaned : WereCleaned base acts first barrier
+abbrev pub IsPhaseRepairAllowed : List Act → ℕ → Type 0
+IsPhaseRepairAllowed acts desk = (position : ℕ) × IsRemoved acts desk position

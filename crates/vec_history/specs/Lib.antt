@@ -1,0 +1,4 @@
+pub mod Acts
+pub mod Gates
+pub mod Phases
+pub mod Settling
