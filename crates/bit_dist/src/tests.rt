@@ -23,6 +23,25 @@ fn distances_count_unequal_places(rt: HostRuntime) -> Result<(), Fail> {
 }
 
 #[test]
+fn jaccard_distances_are_unreduced(rt: HostRuntime) -> Result<(), Fail> {
+    for (a, b, num, den) in [
+        ("1100", "1010", 2, 3),
+        ("0000", "0000", 1, 1),
+        ("1100", "0011", 1, 1),
+        ("1111", "1100", 2, 4),
+    ] {
+        let a = read_bits(rt.alloc(), a)?;
+        let b = read_bits(rt.alloc(), b)?;
+        if a.count() == b.count() {
+            let near = distance(Ops::Jaccard, &a, &b);
+            assert_eq!(rt; near.num, num);
+            assert_eq!(rt; near.den, den);
+        }
+    }
+    Ok(())
+}
+
+#[test]
 fn fractions_are_ordered_by_value(rt: HostRuntime) {
     let half = Dist { num: 1, den: 2 };
     let two_quarters = Dist { num: 2, den: 4 };
