@@ -1,0 +1,15 @@
+//! Which elements become neighbours: the choice among those that a search found, and the slot that a new neighbour takes
+//! in a list.
+//!
+//! The definitions stand in specs/: `Order` (by distance, and then by place), `Selection` and `Slots`. The
+//! functions here are laws of those definitions, and do no work.
+#![tactic(auto)]
+
+mod found;
+mod law;
+
+pub use found::{Found, SlotSeen};
+pub use law::{law_equal_members, law_selection, law_slots};
+
+#[cfg(test)]
+mod tests;
