@@ -1,5 +1,6 @@
 -- What a stable sort gives is `ranked`.
-use Rattle.std.proofs.Common.{◌≡◌, refl, sym, ap, ◌∙◌, subst, ℕ, suc, ◌+◌, ◌<◌, List, [], ◌∷◌, length, get_or, arith, filter}
+use Rattle.std.proofs.Common.{◌≡◌, refl, sym, ap, ◌∙◌, subst, ℕ, zero, suc, ◌+◌, ◌<◌, List, [], ◌∷◌, length, get_or, slice_get, Some, arith, filter}
+use Rattle.std.proofs.lemmas.Option.{same_Some, none-some}
 use Rattle.std.specs.Prelude.{Bool, true, false, not, ◌&&◌, cond, if◌then◌else◌}
 use Rattle.std.specs.Cmp.{IsStrictWeakOrder}
 use Rattle.std.specs.List.Sorted.{IsSortedBy, IsStableBy, ties}
@@ -7,12 +8,12 @@ use Rattle.std.proofs.lemmas.List.Sorted.{sorted_far}
 use Rattle.bit_dist.specs.Ranking.{placed, ranked}
 
 -- no element of the list is less than x
-abbrev NoneLess : {X : Type 0} → (X → X → Bool) → X → List X → Type 0
+abbrev pub NoneLess : {X : Type 0} → (X → X → Bool) → X → List X → Type 0
 NoneLess lt x [] = Unit {0}
 NoneLess lt x (y ∷ ys) = (lt y x ≡ false) × NoneLess lt x ys
 
 -- no element is less than one before it
-abbrev Rises : {X : Type 0} → (X → X → Bool) → List X → Type 0
+abbrev pub Rises : {X : Type 0} → (X → X → Bool) → List X → Type 0
 Rises lt [] = Unit {0}
 Rises lt (x ∷ xs) = NoneLess lt x xs × Rises lt xs
 
@@ -130,9 +131,22 @@ rises_placed lt o x (y ∷ ys) rises = by_test (lt y x) refl (rises_placed lt o 
     by_test true less further = (none_less_placed lt x y ys (o.one_way y x less) rises.0, further)
     by_test false not_less further = ((not_less, none_less_through lt o x y ys not_less rises.0), rises)
 
-rises_ranked : {X : Type 0} (lt : X → X → Bool) → IsStrictWeakOrder lt → (xs : List X) → Rises lt (ranked lt xs)
+pub rises_ranked : {X : Type 0} (lt : X → X → Bool) → IsStrictWeakOrder lt → (xs : List X) → Rises lt (ranked lt xs)
 rises_ranked lt o [] = tt
 rises_ranked lt o (x ∷ xs) = rises_placed lt o x (ranked lt xs) (rises_ranked lt o xs)
+
+none_less_at : {X : Type 0} (lt : X → X → Bool) (x : X) (xs : List X) (i : ℕ) (y : X) → NoneLess lt x xs → slice_get xs i ≡ Some y → lt y x ≡ false
+none_less_at lt x [] i y none is = absurd (none-some y is)
+none_less_at lt x (z ∷ zs) zero y none is = subst (λ (w : _). lt w x ≡ false) (same_Some z y is) none.0
+none_less_at lt x (z ∷ zs) (suc i) y none is = none_less_at lt x zs i y none.1 is
+
+-- in such a list no element is less than one before it
+pub rises_at : {X : Type 0} (lt : X → X → Bool) (xs : List X) (i j : ℕ) (x y : X) → Rises lt xs → i < j → slice_get xs i ≡ Some x → slice_get xs j ≡ Some y → lt y x ≡ false
+rises_at lt [] i j x y r h a b = absurd (none-some x a)
+rises_at lt (z ∷ zs) zero zero x y r h a b = absurd (omega arith)
+rises_at lt (z ∷ zs) zero (suc j) x y r h a b = subst (λ (w : _). lt y w ≡ false) (same_Some z x a) (none_less_at lt z zs j y r.0 b)
+rises_at lt (z ∷ zs) (suc i) zero x y r h a b = absurd (omega (arith, h))
+rises_at lt (z ∷ zs) (suc i) (suc j) x y r h a b = rises_at lt zs i j x y r.1 (omega (arith, h)) a b
 
 -- an element that ties with z is not passed by one that does
 ties_placed : {X : Type 0} (lt : X → X → Bool) → IsStrictWeakOrder lt → (z x : X) (ys : List X) → filter (ties lt z) (placed lt x ys) ≡ filter (ties lt z) (x ∷ ys)

@@ -1,0 +1,5 @@
+pub mod Reads
+pub mod Search
+pub mod Descent
+pub mod Scan
+pub mod Insert

@@ -1,0 +1,131 @@
+-- A scan in batches: the HNSW paper's Algorithm 5, and after pgvector's iterative scans its going on for more. How a batch goes on, reads anew what it
+-- met before, and ends, is this project's own rule.
+use Rattle.std.specs.Prelude.{◌≡◌, ℕ, ◌||◌, ◌&&◌, not, if◌then◌else◌, Bool, true, false, List, [], ◌∷◌, ◌++◌, map, flat_map, take, Option, Some, None}
+use Rattle.std.specs.Ordering.{is_lt}
+use Rattle.vec_names.specs.declared.tid.Tid.{Tid}
+use Rattle.vec_names.specs.declared.heap_id.HeapId.{HeapId}
+use Rattle.vec_names.specs.declared.params.Ops.{Ops}
+use Rattle.bit_dist.specs.declared.dist.Dist.{Dist}
+use Rattle.bit_dist.specs.Distances.{dist_cmp}
+use Rattle.neighbour_pick.specs.declared.found.Found.{Found}
+use Rattle.graph_search.specs.Reads.{Look, AtNode, Answer}
+use Rattle.graph_search.specs.Search.{Turn, Start, Bounds, is_among, place_of, element_of, known, found_in, is_halted, IsCourse, course_reads, only_ef}
+use Rattle.graph_search.specs.Descent.{Descent, start_at}
+
+-- a row that is answered: its id, the distance of its value, and which element gave it
+pub record Given : Type 0 where
+  pub id : HeapId
+  pub dist : Dist
+  pub at : Tid
+  pub version : ℕ
+
+-- the rows of an element, in their order
+abbrev pub rows_of : Found → List Given
+rows_of e = map (λ id. record { id = id; dist = e.dist; at = e.at; version = e.version }) e.ids.items
+
+-- where a scan stands between two batches
+pub record Standing : Type 0 where
+  pub start : Start
+  pub turns : List Turn
+  pub taken : List Tid
+  pub last : Option Dist
+
+abbrev pub is_nothing : {X : Type 0} → List X → Bool
+is_nothing [] = true
+is_nothing (x ∷ xs) = false
+
+abbrev pub last_dist : Option Dist → List Given → Option Dist
+last_dist last [] = last
+last_dist last (g ∷ given) = last_dist (Some g.dist) given
+
+-- ---- the first batch
+
+-- The lowest layer is searched from where the descent leads.
+pub record SearchedBelow (ops : Ops) (query : List Bool) (ef : ℕ) (from : List Found) (reads : List (Look × Answer)) (given : List Given) (now : Standing) : Type 0 where
+  pub turns : List Turn
+  pub course : IsCourse (start_at ops query from 0) (only_ef ef) [] turns
+  pub halted : is_halted (start_at ops query from 0) (only_ef ef) turns ≡ true
+  pub reads_are : reads ≡ course_reads 0 turns
+  pub given_are : given ≡ flat_map rows_of (take ef (found_in (start_at ops query from 0) (only_ef ef) turns))
+  pub now_is : now ≡ record {
+    start = start_at ops query from 0;
+    turns = turns;
+    taken = map place_of (take ef (found_in (start_at ops query from 0) (only_ef ef) turns));
+    last = last_dist None given;
+  }
+
+abbrev pub below : Ops → List Bool → ℕ → Option ℕ → List Found → List (Look × Answer) → List Given → Standing → Type 0
+below ops query ef None from reads given now =
+    (reads ≡ []) × (given ≡ []) × (now ≡ record { start = start_at ops query [] 0; turns = []; taken = []; last = None })
+below ops query ef (Some top) from reads given now = SearchedBelow ops query ef from reads given now
+
+-- The first batch: the descent to the lowest layer, and the search there. It gives each element's rows in their order. Without an entry point, or where
+-- that is gone, it gives none.
+pub record FirstBatch (ops : Ops) (query : List Bool) (ef : ℕ) (reads : List (Look × Answer)) (given : List Given) (end : Bool) (now : Standing) : Type 0 where
+  pub down : List (Look × Answer)
+  pub top : Option ℕ
+  pub from : List Found
+  pub descent : Descent ops query 0 down top from
+  pub on : List (Look × Answer)
+  pub searched : below ops query ef top from on given now
+  pub reads_are : reads ≡ down ++ on
+  pub end_is : end ≡ is_nothing given
+
+-- ---- the next batch
+
+abbrev pub is_known_at : List Found → Tid → Bool
+is_known_at es at = is_among (map place_of es) at
+
+-- The rows of one element that is taken, and then those of others. One that an earlier batch knew is read again, with its version: where it is gone it
+-- gives none, and where it has no row any more neither; else its rows and distance are those now read.
+abbrev pub TakesOne : Bool → Ops → List Bool → Found → (List (Look × Answer) → List Given → Type 0) → List (Look × Answer) → List Given → Type 0
+TakesOne true ops query e Others reads given =
+    (told : Answer) × (rest : List (Look × Answer)) × (others : List Given) × (reads ≡ (AtNode e.at 0 (Some e.version), told) ∷ rest)
+    × (given ≡ flat_map rows_of (element_of ops query e.at told) ++ others) × Others rest others
+TakesOne false ops query e Others reads given = (others : List Given) × (given ≡ rows_of e ++ others) × Others reads others
+
+-- the rows of the elements that are taken, in the order in which they were found; `earlier` are those that earlier batches knew
+abbrev pub TakesIn : Ops → List Bool → List Found → List Found → List (Look × Answer) → List Given → Type 0
+TakesIn ops query earlier [] reads given = (reads ≡ []) × (given ≡ [])
+TakesIn ops query earlier (e ∷ es) reads given =
+    TakesOne (is_known_at earlier e.at) ops query e (λ rest others. TakesIn ops query earlier es rest others) reads given
+
+pub data Mode : Type 0 where
+  Relaxed : Mode
+  Strict : Mode
+
+abbrev pub is_less : Dist → Option Dist → Bool
+is_less d None = false
+is_less d (Some last) = is_lt (dist_cmp d last)
+
+-- without each row that is nearer than the last one given before it
+abbrev pub without_nearer : Option Dist → List Given → List Given
+without_nearer last [] = []
+without_nearer last (g ∷ given) = if is_less g.dist last then without_nearer last given else g ∷ without_nearer (Some g.dist) given
+
+abbrev pub let_through : Mode → Option Dist → List Given → List Given
+let_through Relaxed last given = given
+let_through Strict last given = without_nearer last given
+
+-- A next batch: the search of the lowest layer goes on, without the elements that were taken before, and makes no expansion once `most` are known. The first
+-- ef found are taken. Their looks come after those of the search, in the order in which they were found.
+pub record NextBatch (ef most : ℕ) (mode : Mode) (old : Standing) (reads : List (Look × Answer)) (given : List Given) (end : Bool) (now : Standing) : Type 0 where
+  pub more : List Turn
+  pub bounds : Bounds
+  pub bounds_are : bounds ≡ record { ef = ef; taken = old.taken; most = Some most }
+  pub course : IsCourse old.start bounds old.turns more
+  pub halted : is_halted old.start bounds (old.turns ++ more) ≡ true
+  pub batch : List Found
+  pub batch_is : batch ≡ take ef (found_in old.start bounds (old.turns ++ more))
+  pub again : List (Look × Answer)
+  pub rows : List Given
+  pub takes : TakesIn old.start.ops old.start.query (known old.start old.turns) batch again rows
+  pub reads_are : reads ≡ course_reads 0 more ++ again
+  pub given_are : given ≡ let_through mode old.last rows
+  pub end_is : end ≡ is_nothing batch
+  pub now_is : now ≡ record {
+    start = old.start;
+    turns = old.turns ++ more;
+    taken = old.taken ++ map place_of batch;
+    last = last_dist old.last given;
+  }

@@ -1,0 +1,13 @@
+//! What a search of the graph is, and what an insert does: the definitions that the operations meet.
+//!
+//! They stand in specs/: `Reads` (what a look tells, and the reads of a history), `Search` (one layer), `Descent` (from
+//! the entry point down), `Scan` (batches) and `Insert` (the lists of a new node, and the links back). The functions
+//! here are laws of those definitions, and do no work.
+#![tactic(auto)]
+
+mod law;
+
+pub use law::law_search;
+
+#[cfg(test)]
+mod tests;

@@ -1,0 +1,7 @@
+use super::*;
+
+// The laws need nothing.
+#[test]
+fn laws_of_searches() {
+    law_search();
+}
