@@ -6,4 +6,5 @@ pub mod Clear
 pub mod RowLaws
 pub mod SlotLaws
 pub mod LinksLaws
+pub mod SlotPlaces
 pub mod Loops

@@ -122,3 +122,9 @@ pub record IsLinks (p : Params) (l : Links) : Type 0 where
   pub version_high : l.version ≤ 255
   pub count : IsSlotCount p.m (length l.tids)
   pub slots : AllByRecursion (IsSlotOf l.deleted) l.tids
+
+-- the bytes spell some neighbour tuple that has a slot of this number
+pub record HasSlot (bytes : List ℕ) (at : ℕ) : Type 0 where
+  pub links : Links
+  pub spelled : bytes ≡ links_bytes links
+  pub below : at < length links.tids
