@@ -123,6 +123,10 @@ pub record IsLinks (p : Params) (l : Links) : Type 0 where
   pub count : IsSlotCount p.m (length l.tids)
   pub slots : AllByRecursion (IsSlotOf l.deleted) l.tids
 
+-- what stands before the slots: whether the element is deleted, its version, and the number of slots
+abbrev pub head_of_links : Links → Bool × ℕ × ℕ
+head_of_links l = (l.deleted, l.version, length l.tids)
+
 -- the bytes spell some neighbour tuple that has a slot of this number
 pub record HasSlot (bytes : List ℕ) (at : ℕ) : Type 0 where
   pub links : Links

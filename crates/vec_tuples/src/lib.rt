@@ -18,7 +18,7 @@ mod slots;
 pub use centre::{CentreTuple, read_centre, set_aim, write_centre};
 pub use entry::{EntryRow, fill_entry, read_entry, write_entry};
 pub use fault::TupleFault;
-pub use in_place::{fill_links, set_slot, slot};
+pub use in_place::{fill_links, links_head, set_slot, slot};
 pub use links::{Links, read_list, write_list};
 pub use meta::{Meta, fill_meta, read_meta, write_meta};
 
