@@ -7,4 +7,6 @@ pub mod RowLaws
 pub mod SlotLaws
 pub mod LinksLaws
 pub mod SlotPlaces
+pub mod RowPlaces
+pub mod ElementLaws
 pub mod Loops

@@ -106,15 +106,21 @@ slot_set bytes at to l is lt =
 
 -- ---- slots written one after the other
 
--- one more slot is written behind those before it
-pub slots_more : (tids : List (Option Tid)) (at : ℕ) (old bytes : List ℕ) (o : Option Tid) → at < length tids → length old ≡ 6 * length tids → o ≡ get_or tids at o
+-- six bytes are written behind those before them
+pub six_more : (done : List ℕ) (at : ℕ) (old bytes six : List ℕ) → length done ≡ 6 * at → bytes ≡ done ++ drop (6 * at) old
+    → take (6 * at) bytes ++ (six ++ drop (6 * at + 6) bytes) ≡ (done ++ six) ++ drop (6 * (at + 1)) old
+six_more done at old bytes six long so_far =
+    let end : 6 * at + 6 ≡ length done + 6 = omega (arith, long) in
+    ap (λ (b : List ℕ). take (6 * at) b ++ (six ++ drop (6 * at + 6) b)) so_far
+    ∙ ap₂ (λ (s t : List ℕ). s ++ (six ++ t)) (take_at done (drop (6 * at) old) (6 * at) long)
+    (ap (λ k. drop k (done ++ drop (6 * at) old)) end ∙ drop-append-add done (drop (6 * at) old) 6 ∙ drop_drop_six old at)
+    ∙ sym (append_assoc done six (drop (6 * (at + 1)) old))
+
+pub slots_more : (tids : List (Option Tid)) (at : ℕ) (old bytes : List ℕ) (o : Option Tid) → at < length tids → o ≡ get_or tids at o
     → bytes ≡ flat_map tid_option_bytes (take at tids) ++ drop (6 * at) old
     → take (6 * at) bytes ++ (tid_option_bytes o ++ drop (6 * at + 6) bytes) ≡ flat_map tid_option_bytes (take (at + 1) tids) ++ drop (6 * (at + 1)) old
-slots_more tids at old bytes o lt long is so_far =
-    let done : length (sixes (take at tids)) ≡ 6 * at = length-slots (take at tids) ∙ omega (arith, length-take at tids) in
-    let end : 6 * at + 6 ≡ length (sixes (take at tids)) + 6 = omega (arith, done) in
-    ap (λ (b : List ℕ). take (6 * at) b ++ (six o ++ drop (6 * at + 6) b)) so_far
-    ∙ ap₂ (λ (s t : List ℕ). s ++ (six o ++ t)) (take_at (sixes (take at tids)) (drop (6 * at) old) (6 * at) done)
-    (ap (λ k. drop k (sixes (take at tids) ++ drop (6 * at) old)) end ∙ drop-append-add (sixes (take at tids)) (drop (6 * at) old) 6 ∙ drop_drop_six old at)
-    ∙ sym (append_assoc (sixes (take at tids)) (six o) (drop (6 * (at + 1)) old))
-    ∙ ap (λ (t : List ℕ). t ++ drop (6 * (at + 1)) old) (ap (λ (t : List ℕ). sixes (take at tids) ++ t) (sym (append-nil (six o))) ∙ sym (flat_map-append six (take at tids) (o ∷ [])) ∙ ap sixes (sym (take_more tids at o lt ∙ ap (λ x. take at tids ++ x ∷ []) (sym is))))
+slots_more tids at old bytes o lt is so_far =
+    let more : sixes (take (at + 1) tids) ≡ sixes (take at tids) ++ six o =
+    ap sixes (take_more tids at o lt ∙ ap (λ x. take at tids ++ x ∷ []) (sym is)) ∙ flat_map-append six (take at tids) (o ∷ []) ∙ ap (λ (t : List ℕ). sixes (take at tids) ++ t) (append-nil (six o)) in
+    six_more (sixes (take at tids)) at old bytes (six o) (length-slots (take at tids) ∙ omega (arith, length-take at tids, lt)) so_far
+    ∙ ap (λ (t : List ℕ). t ++ drop (6 * (at + 1)) old) (sym more)

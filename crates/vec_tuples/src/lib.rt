@@ -4,6 +4,7 @@
 
 mod bits;
 mod centre;
+mod element;
 mod entry;
 mod fault;
 mod fields;
@@ -13,9 +14,13 @@ mod meta;
 mod parameters;
 mod pieces;
 mod refused;
+mod rows;
 mod slots;
 
 pub use centre::{CentreTuple, read_centre, set_aim, write_centre};
+pub use element::{
+    Element, ElementHead, element_head, fill_element, read_element, set_head, write_element,
+};
 pub use entry::{EntryRow, fill_entry, read_entry, write_entry};
 pub use fault::TupleFault;
 pub use in_place::{fill_links, links_head, set_slot, slot};
