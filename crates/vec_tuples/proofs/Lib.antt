@@ -9,4 +9,5 @@ pub mod LinksLaws
 pub mod SlotPlaces
 pub mod RowPlaces
 pub mod ElementLaws
+pub mod PackedAt
 pub mod Loops

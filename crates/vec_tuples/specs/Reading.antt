@@ -240,3 +240,15 @@ value_of true count = value_with (clear_places count) count
 
 unfoldable pub element : Params → Reader Element
 element p = with_next element_with head (λ h. value_of h.deleted p.bits)
+
+-- ---- tuples with a value
+
+abbrev pub is_zero_at : List ℕ → ℕ → Bool
+is_zero_at bytes i = slice_index bytes i == 0
+
+-- Where the places begin. In a list's tuple and in an entry the high halves of the words at 8 and 12 are 0. In an element
+-- the second place of rows stands there: the first of these is not 0 where it is empty, and the second, its offset, where
+-- it is not. The word at 8 is 0 in a list's tuple and a length in an entry.
+unfoldable pub places_at : List ℕ → ℕ
+places_at bytes =
+    if is_zero_at bytes 10 && (is_zero_at bytes 14 && is_zero_at bytes 15) then (if is_zero_at bytes 8 && is_zero_at bytes 9 then 20 else 16) else 80

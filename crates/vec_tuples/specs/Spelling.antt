@@ -185,3 +185,11 @@ pub record IsElement (p : Params) (e : Element) : Type 0 where
   pub head : IsHead (head_of_element e)
   pub long : length e.bits ≡ p.bits
   pub cleared : e.bits ≡ beside e.deleted e.bits
+
+-- ---- tuples with a value
+
+-- the bytes spell a tuple that has this value: of an element, of a list or of an entry
+pub data HasValue (bytes : List ℕ) (bits : List Bool) : Type 0 where
+  OfElement : (p : Params) (e : Element) → IsInRange p → IsElement p e → bytes ≡ element_bytes e → bits ≡ e.bits → HasValue bytes bits
+  OfCentre : (p : Params) (c : CentreTuple) → IsInRange p → IsCentre p c → bytes ≡ centre_bytes c → bits ≡ c.bits → HasValue bytes bits
+  OfEntry : (p : Params) (row : EntryRow) → IsInRange p → IsEntry p row → bytes ≡ entry_bytes row → bits ≡ row.bits → HasValue bytes bits

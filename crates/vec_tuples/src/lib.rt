@@ -16,6 +16,7 @@ mod pieces;
 mod refused;
 mod rows;
 mod slots;
+mod values;
 
 pub use centre::{CentreTuple, read_centre, set_aim, write_centre};
 pub use element::{
@@ -26,6 +27,7 @@ pub use fault::TupleFault;
 pub use in_place::{fill_links, links_head, set_slot, slot};
 pub use links::{Links, read_list, write_list};
 pub use meta::{Meta, fill_meta, read_meta, write_meta};
+pub use values::packed;
 
 #[cfg(test)]
 mod tests;
