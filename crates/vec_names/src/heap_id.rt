@@ -96,3 +96,10 @@ impl HeapId {
         }
     }
 }
+
+/// The first row that there may be, 0/1: what stands in the places of an `ArrayVec` that are not used.
+impl Default for HeapId {
+    fn default() -> HeapId {
+        HeapId { block: 0, off: 1 }
+    }
+}

@@ -1,5 +1,5 @@
 -- Each field is read as it is spelled.
-use Rattle.std.proofs.Common.{◌≡◌, ℕ, ◌+◌, ◌/◌, ◌<◌, ◌≤◌, ◌^◌, Bool, true, false, not, ◌&&◌, leb, slice_index_or, List, [], ◌∷◌, ◌++◌, length, take, drop, Option, Some, None, refl, sym, ap, subst, ◌∙◌, arith, lit≤, lit<}
+use Rattle.std.proofs.Common.{◌≡◌, ℕ, ◌+◌, ◌/◌, ◌<◌, ◌≤◌, ◌^◌, Bool, true, false, not, ◌&&◌, leb, eqb, slice_index_or, List, [], ◌∷◌, ◌++◌, length, take, drop, Option, Some, None, refl, sym, ap, subst, ◌∙◌, arith, lit≤, lit<}
 use Rattle.std.specs.Prelude.{slice_index, replicate}
 use Rattle.std.proofs.lemmas.List.{length-replicate}
 use Rattle.std.specs.Int.{w16, w32, to_le_bytes, from_le_bytes}
@@ -10,11 +10,11 @@ use Rattle.bit_code.specs.Places.{unpacked, packed}
 use Rattle.bit_code.proofs.ExactPacking.{length-packed, packed-Packed, unpacked-packed, packed-take, length-take}
 use Rattle.vec_names.specs.declared.tid.Tid.{Tid}
 use Rattle.vec_names.specs.declared.heap_id.HeapId.{HeapId}
-use Rattle.vec_names.specs.Pointer.{heap_id_bytes, heap_id_in, pointer_bytes, tid_option_bytes, tid_option_in, block_in, off_in}
-use Rattle.vec_names.proofs.Pointers.{heap_id_in-again, heap_id_of-spelled, length-pointer_bytes, pointer_bytes-back, tid_option_in-again, tid_option_of-spelled}
+use Rattle.vec_names.specs.Pointer.{heap_id_bytes, heap_id_in, heap_id_option_bytes, heap_id_option_in, pointer_bytes, tid_bytes, tid_in, tid_option_bytes, tid_option_in, block_in, off_in}
+use Rattle.vec_names.proofs.Pointers.{heap_id_in-again, heap_id_of-spelled, heap_id_option_in-again, heap_id_option_of-spelled, tid_in-again, tid_of-spelled, length-pointer_bytes, pointer_bytes-back, tid_option_in-again, tid_option_of-spelled}
 use Rattle.vec_tuples.specs.Spelling.{length_word, bits_bytes}
-use Rattle.vec_tuples.specs.Reading.{heap_id, packed_places, bit_value, only_if, byte_from, two_bytes_from, four_bytes_from, optional_place, no_place, none_alone}
-use Rattle.vec_tuples.proofs.Clear.{clear_packed, packed_clear}
+use Rattle.vec_tuples.specs.Reading.{Reader, heap_id, packed_places, clear_places, bit_value, value_with, value_of, only_if, byte_from, two_bytes_from, four_bytes_from, place, optional_place, no_place, optional_row, no_row, none_alone}
+use Rattle.vec_tuples.proofs.Clear.{clear_packed, packed_clear, all_zero, zeros_told, packed_zeros}
 use Rattle.vec_tuples.proofs.FieldLaws.{AreBytes, IsField, field_law, viewed_law, then_law, wider}
 
 pub some_is : {A : Type 0} (x y : A) → Some x ≡ Some y → x ≡ y
@@ -104,13 +104,13 @@ optional_field = field_law 6 tid_option_in tid_option_bytes (λ _. Unit {0}) (re
   only = λ bytes o len bs is. (optional_only bytes o len bs is, tt);
 })
 
-alone : (x : Option (Option Tid)) (o : Option Tid) → none_alone x ≡ Some o → (x ≡ Some o) × (o ≡ None)
+alone : {A : Type 0} (x : Option (Option A)) (o : Option A) → none_alone x ≡ Some o → (x ≡ Some o) × (o ≡ None)
 unfolding none_alone
 alone None o is = absurd cc
 alone (Some None) o is = let e = some_is None o is in (ap (λ y. Some y) e, sym e)
 alone (Some (Some t)) o is = absurd cc
 
-none_told : none_alone (Some None) ≡ Some None
+none_told : {A : Type 0} → none_alone {A = A} (Some None) ≡ Some None
 unfolding none_alone
 none_told = refl
 
@@ -150,6 +150,45 @@ row_field = field_law 6 heap_id_in heap_id_bytes (λ _. Unit {0}) (record {
   only = λ bytes id len bs is. (sym (pointer_bytes-back bytes len bs) ∙ heap_id_of-spelled (block_in bytes) (off_in bytes) (Some id) (sym is), tt);
 })
 
+pub place_field : IsField place tid_bytes (λ _. Unit {0}) 6
+unfolding place
+place_field = field_law 6 tid_in tid_bytes (λ _. Unit {0}) (record {
+  some = lit≤ tt;
+  inhabited = (record { block = 0; off = 1; within_blocks = lit≤ tt; counted_from_one = lit≤ tt; in_two_bytes = lit< tt }, tt);
+  long = λ t _. length-pointer_bytes t.block t.off;
+  meant_by = λ t _. tid_in-again t;
+  only = λ bytes t len bs is. (sym (pointer_bytes-back bytes len bs) ∙ tid_of-spelled (block_in bytes) (off_in bytes) (Some t) (sym is), tt);
+})
+
+pub length-heap_id_option_bytes : (o : Option HeapId) → length (heap_id_option_bytes o) ≡ 6
+length-heap_id_option_bytes None = length-pointer_bytes 0xFFFFFFFF 0
+length-heap_id_option_bytes (Some id) = length-pointer_bytes id.block id.off
+
+row_only : (bytes : List ℕ) (o : Option HeapId) → length bytes ≡ 6 → AreBytes bytes → heap_id_option_in bytes ≡ Some o → bytes ≡ heap_id_option_bytes o
+row_only bytes o len bs is = sym (pointer_bytes-back bytes len bs) ∙ heap_id_option_of-spelled (block_in bytes) (off_in bytes) (Some o) (sym is)
+
+pub optional_row_field : IsField optional_row heap_id_option_bytes (λ _. Unit {0}) 6
+unfolding optional_row
+optional_row_field = field_law 6 heap_id_option_in heap_id_option_bytes (λ _. Unit {0}) (record {
+  some = lit≤ tt;
+  inhabited = (None, tt);
+  long = λ o _. length-heap_id_option_bytes o;
+  meant_by = λ o _. heap_id_option_in-again o;
+  only = λ bytes o len bs is. (row_only bytes o len bs is, tt);
+})
+
+pub no_row_field : IsField no_row heap_id_option_bytes (λ o. o ≡ None) 6
+unfolding no_row
+no_row_field = field_law 6 (λ b. none_alone (heap_id_option_in b)) heap_id_option_bytes (λ o. o ≡ None) (record {
+  some = lit≤ tt;
+  inhabited = (None, refl);
+  long = λ o _. length-heap_id_option_bytes o;
+  meant_by = λ o e. rw e (ap none_alone (heap_id_option_in-again None) ∙ none_told);
+  only = λ bytes o len bs is.
+      let a = alone (heap_id_option_in bytes) o is in
+      (row_only bytes o len bs a.0, a.1);
+})
+
 -- ---- bit values
 
 pub packed_long : (xs : List Bool) → length (packed xs) ≡ (length xs + 7) / 8
@@ -171,6 +210,20 @@ packed_field count some few =
           (sym (packed-take count bytes kept bs) ∙ ap packed t.1, sym (ap (λ (ys : List Bool). length ys) t.1) ∙ length-take count bytes kept);
     })
 
+-- places none of which is set
+pub clear_field : (count : ℕ) → 1 ≤ count → count ≤ 64000 → IsField (clear_places count) packed (λ xs. xs ≡ replicate count false) ((count + 7) / 8)
+unfolding clear_places
+clear_field count some few =
+    field_law ((count + 7) / 8) (λ b. only_if (list_all (λ x. eqb x 0) b) (replicate count false)) packed (λ xs. xs ≡ replicate count false) (record {
+      some = omega (arith, some);
+      inhabited = (replicate count false, refl);
+      long = λ xs is. rw is (length-packed (replicate count false) ∙ ap (λ n. (n + 7) / 8) (length-replicate count false));
+      meant_by = λ xs is. rw is (allowed _ _ (ap (λ (b : List ℕ). list_all (λ x. eqb x 0) b) (packed_zeros count) ∙ zeros_told ((count + 7) / 8)));
+      only = λ bytes xs len bs is.
+          let t = told_only (list_all (λ x. eqb x 0) bytes) (replicate count false) xs is in
+          (all_zero bytes t.0 ∙ ap (λ n. replicate n 0) len ∙ sym (packed_zeros count) ∙ ap packed t.1, sym t.1);
+    })
+
 -- the length word and the count are spelled as they were read
 head_text : (count word read : ℕ) (bits : List Bool) → length bits ≡ count → IsFrom (length_word count) (length_word count) word → IsFrom count count read
     → bits_bytes bits ≡ to_le_bytes w32 word ++ (to_le_bytes w32 read ++ packed bits)
@@ -179,13 +232,29 @@ head_text count word read bits len is_word is_count =
     let n : read ≡ length bits = omega (arith, is_count.0, is_count.1, len) in
     rw (w, n) refl
 
-pub bits_field : (count : ℕ) → 1 ≤ count → count ≤ 64000 → IsField (bit_value count) bits_bytes (λ xs. length xs ≡ count) (8 + (count + 7) / 8)
-unfolding bit_value
-bits_field count some few =
+-- a value whose places are read so
+pub value_field : (count : ℕ) → 1 ≤ count → count ≤ 64000 → (places : Reader (List Bool)) (Fits : List Bool → Type 0) → ((xs : List Bool) → Fits xs → length xs ≡ count)
+    → IsField places packed Fits ((count + 7) / 8) → IsField (value_with places count) bits_bytes Fits (8 + (count + 7) / 8)
+value_field count some few places Fits long law =
     wider (4 + (4 + (count + 7) / 8)) (8 + (count + 7) / 8) (omega arith)
     (viewed_law _ _
-    (then_law (four_bytes_field (length_word count) (length_word count) (omega arith) (omega (arith, few))) (then_law (four_bytes_field count count (omega arith) (omega (arith, few))) (packed_field count some few)))
-    bits_bytes (λ xs. length xs ≡ count)
-    (λ bits len.
-    ((length_word count, (count, bits)), refl, ((omega arith, omega arith), ((omega arith, omega arith), len)), head_text count (length_word count) count bits len (omega arith, omega arith) (omega arith, omega arith)))
-    (λ w f. (f.1.1, head_text count w.0 w.1.0 w.1.1 f.1.1 f.0 f.1.0)))
+    (then_law (four_bytes_field (length_word count) (length_word count) (omega arith) (omega (arith, few))) (then_law (four_bytes_field count count (omega arith) (omega (arith, few))) law))
+    bits_bytes Fits
+    (λ bits fits.
+    ((length_word count, (count, bits)), refl, ((omega arith, omega arith), ((omega arith, omega arith), fits)), head_text count (length_word count) count bits (long bits fits) (omega arith, omega arith) (omega arith, omega arith)))
+    (λ w f. (f.1.1, head_text count w.0 w.1.0 w.1.1 (long w.1.1 f.1.1) f.0 f.1.0)))
+
+pub bits_field : (count : ℕ) → 1 ≤ count → count ≤ 64000 → IsField (bit_value count) bits_bytes (λ xs. length xs ≡ count) (8 + (count + 7) / 8)
+unfolding bit_value
+bits_field count some few = value_field count some few (packed_places count) (λ xs. length xs ≡ count) (λ xs len. len) (packed_field count some few)
+
+-- what may stand beside a head
+abbrev pub IsValueOf : Bool → ℕ → List Bool → Type 0
+IsValueOf false count bits = length bits ≡ count
+IsValueOf true count bits = bits ≡ replicate count false
+
+pub value_of_field : (deleted : Bool) (count : ℕ) → 1 ≤ count → count ≤ 64000 → IsField (value_of deleted count) bits_bytes (IsValueOf deleted count) (8 + (count + 7) / 8)
+unfolding value_of
+value_of_field false count some few = bits_field count some few
+value_of_field true count some few =
+    value_field count some few (clear_places count) (λ xs. xs ≡ replicate count false) (λ xs is. ap (λ (ys : List Bool). length ys) is ∙ length-replicate count false) (clear_field count some few)

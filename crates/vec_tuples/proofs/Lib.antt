@@ -6,4 +6,8 @@ pub mod Clear
 pub mod RowLaws
 pub mod SlotLaws
 pub mod LinksLaws
+pub mod SlotPlaces
+pub mod RowPlaces
+pub mod ElementLaws
+pub mod PackedAt
 pub mod Loops

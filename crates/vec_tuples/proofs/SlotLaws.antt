@@ -27,7 +27,7 @@ module _ {A : Type 0} where
   abbrev pub AreSo : (A → Type 0) → ℕ → List A → Type 0
   AreSo Fits n v = (length v ≡ n) × AllByRecursion Fits v
 
-  nothing_field : (f : Reader (List A)) → ((bytes : List ℕ) → f bytes ≡ Got [] bytes) → (spell : List A → List ℕ) (Fits : List A → Type 0) → spell [] ≡ [] → Fits [] → ((v : List A) → Fits v → v ≡ [])
+  pub nothing_field : (f : Reader (List A)) → ((bytes : List ℕ) → f bytes ≡ Got [] bytes) → (spell : List A → List ℕ) (Fits : List A → Type 0) → spell [] ≡ [] → Fits [] → ((v : List A) → Fits v → v ≡ [])
       → IsField f spell Fits 0
   nothing_field f is spell Fits nothing fits only = record {
     takes = λ bytes v rest bs got.

@@ -12,6 +12,11 @@ abbrev pub Gives : {X A : Type 0} → (X → A × List ℕ) → Result X Refused
 Gives view (Ok x) read = read ≡ Got (view x).0 (view x).1
 Gives view (Err refused) read = read ≡ Bad refused.left
 
+-- the same of a call that tells of the value only so much
+abbrev pub Passes : {X A B : Type 0} → (X → B × List ℕ) → (A → B) → Result X Refused → Read A → Type 0
+Passes {A = A} view tell (Ok x) read = (v : A) × (read ≡ Got v (view x).1) × ((view x).0 ≡ tell v)
+Passes view tell (Err refused) read = read ≡ Bad refused.left
+
 -- the same of a call that takes memory; of want of it nothing is said
 abbrev pub Stops : {A : Type 0} → Halt → Read A → Type 0
 Stops halts.Memory read = Unit {0}

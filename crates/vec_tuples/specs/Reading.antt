@@ -1,7 +1,8 @@
 -- Reading a tuple from left to right, field by field, up to the first whose value no tuple with the same earlier
 -- fields has.
-use Rattle.std.specs.Prelude.{ℕ, zero, suc, true, false, ◌+◌, ◌*◌, ◌/◌, ◌%◌, Bool, not, ◌&&◌, nat_lt, nat_le, ◌==◌, if◌then◌else◌, List, [], ◌∷◌, length, take, drop, slice_index, Option, Some, None}
+use Rattle.std.specs.Prelude.{ℕ, zero, suc, true, false, ◌+◌, ◌*◌, ◌/◌, ◌%◌, Bool, not, ◌&&◌, nat_lt, nat_le, ◌==◌, if◌then◌else◌, List, [], ◌∷◌, ◌++◌, length, take, drop, replicate, slice_index, Option, Some, None}
 use Rattle.std.specs.List.{list_all}
+use Rattle.std.specs.Option.{option_to_list, is_none}
 use Rattle.std.specs.Int.{w16, w32, from_le_bytes}
 use Rattle.vec_names.specs.declared.tid.Tid.{Tid}
 use Rattle.vec_names.specs.declared.params.Kind.{Kind}
@@ -9,14 +10,16 @@ use Rattle.vec_names.specs.declared.params.Kind.TheVariants.{Hnsw, Ivf}
 use Rattle.vec_names.specs.declared.params.Ops.{Ops}
 use Rattle.vec_names.specs.declared.params.Ops.TheVariants.{Hamming, Jaccard}
 use Rattle.vec_names.specs.declared.params.Params.{Params}
-use Rattle.vec_names.specs.Pointer.{tid_option_in, heap_id_in}
+use Rattle.vec_names.specs.Pointer.{tid_in, tid_option_in, heap_id_in, heap_id_option_in}
 use Rattle.vec_names.specs.declared.heap_id.HeapId.{HeapId}
 use Rattle.bit_code.specs.Places.{unpacked}
 use Rattle.vec_tuples.specs.declared.meta.Meta.{Meta}
 use Rattle.vec_tuples.specs.declared.links.Links.{Links}
 use Rattle.vec_tuples.specs.declared.entry.EntryRow.{EntryRow}
 use Rattle.vec_tuples.specs.declared.centre.CentreTuple.{CentreTuple}
-use Rattle.vec_tuples.specs.Spelling.{links_with, magic, length_word, row_with, centre_with}
+use Rattle.vec_tuples.specs.declared.element.Element.{Element}
+use Rattle.vec_tuples.specs.declared.element.ElementHead.{ElementHead}
+use Rattle.vec_tuples.specs.Spelling.{links_with, magic, length_word, row_with, centre_with, head_with, element_with}
 
 -- ---- readers
 
@@ -90,7 +93,7 @@ unfoldable pub optional_place : Reader (Option Tid)
 optional_place = field 6 tid_option_in
 
 -- only that there is none
-unfoldable pub none_alone : Option (Option Tid) → Option (Option Tid)
+unfoldable pub none_alone : {A : Type 0} → Option (Option A) → Option (Option A)
 none_alone None = None
 none_alone (Some None) = Some None
 none_alone (Some (Some at)) = None
@@ -153,14 +156,17 @@ meta =
 
 -- ---- bit values
 
+-- a value of so many places: its length, its count and its places
+abbrev pub value_with : Reader (List Bool) → ℕ → Reader (List Bool)
+value_with places count =
+    viewed (λ x. x.1.1) (four_bytes_from (length_word count) (length_word count) ⨟ four_bytes_from count count ⨟ places)
+
 -- the places of a bit value, no unused bit being set
 unfoldable pub packed_places : ℕ → Reader (List Bool)
 packed_places count = field ((count + 7) / 8) (λ b. only_if (list_all not (drop count (unpacked b))) (take count (unpacked b)))
 
--- a value of so many places: its length, its count and its places
 unfoldable pub bit_value : ℕ → Reader (List Bool)
-bit_value count =
-    viewed (λ x. x.1.1) (four_bytes_from (length_word count) (length_word count) ⨟ four_bytes_from count count ⨟ packed_places count)
+bit_value count = value_with (packed_places count) count
 
 -- ---- the entry tuple and the list tuple
 
@@ -198,3 +204,51 @@ unfoldable pub links : Params → Reader Links
 links p =
     viewed (λ x. links_with (x.0 == 3) x.1.0 x.1.1.1)
     (and_then (byte_from 2 3) (λ k. byte_from 1 255 ⨟ and_then (slot_count p.m) (times (slot_of (k == 3)))))
+
+-- ---- the element tuple
+
+unfoldable pub place : Reader Tid
+place = field 6 tid_in
+
+unfoldable pub optional_row : Reader (Option HeapId)
+optional_row = field 6 heap_id_option_in
+
+unfoldable pub no_row : Reader (Option HeapId)
+no_row = field 6 (λ b. none_alone (heap_id_option_in b))
+
+unfoldable pub row_of : Bool → Reader (Option HeapId)
+row_of false = optional_row
+row_of true = no_row
+
+-- the rows in so many places; once they are closed, and behind a place with none, each has none
+unfoldable pub rows : Bool → ℕ → Reader (List HeapId)
+rows closed zero bytes = Got [] bytes
+rows closed (suc n) bytes = with_next (λ row ids. option_to_list row ++ ids) (row_of closed) (λ row. rows (is_none row) n) bytes
+
+unfoldable pub head : Reader ElementHead
+head =
+    viewed (λ x. head_with x.1.0 (x.1.1.0 == 1) x.1.1.1.0 x.1.1.1.1.0 x.1.1.1.1.1.0)
+    (byte_from 1 1 ⨟ byte_from 0 255 ⨟ and_then (byte_from 0 1) (λ d. byte_from 1 255 ⨟ rows (d == 1) 10 ⨟ place ⨟ two_bytes_from 0 0))
+
+-- the places of a bit value none of which is set
+unfoldable pub clear_places : ℕ → Reader (List Bool)
+clear_places count = field ((count + 7) / 8) (λ b. only_if (list_all (λ x. x == 0) b) (replicate count false))
+
+unfoldable pub value_of : Bool → ℕ → Reader (List Bool)
+value_of false count = bit_value count
+value_of true count = value_with (clear_places count) count
+
+unfoldable pub element : Params → Reader Element
+element p = with_next element_with head (λ h. value_of h.deleted p.bits)
+
+-- ---- tuples with a value
+
+abbrev pub is_zero_at : List ℕ → ℕ → Bool
+is_zero_at bytes i = slice_index bytes i == 0
+
+-- Where the places begin. In a list's tuple and in an entry the high halves of the words at 8 and 12 are 0. In an element
+-- the second place of rows stands there: the first of these is not 0 where it is empty, and the second, its offset, where
+-- it is not. The word at 8 is 0 in a list's tuple and a length in an entry.
+unfoldable pub places_at : List ℕ → ℕ
+places_at bytes =
+    if is_zero_at bytes 10 && (is_zero_at bytes 14 && is_zero_at bytes 15) then (if is_zero_at bytes 8 && is_zero_at bytes 9 then 20 else 16) else 80

@@ -1,5 +1,5 @@
 -- The one spelling of each tuple, field after field. Numbers are little-endian.
-use Rattle.std.specs.Prelude.{◌≡◌, ℕ, ◌+◌, ◌*◌, ◌/◌, ◌≤◌, ◌<◌, ◌^◌, Bool, true, false, List, ◌∷◌, ◌++◌, length, Option, Some, None}
+use Rattle.std.specs.Prelude.{◌≡◌, ℕ, zero, suc, ◌+◌, ◌*◌, ◌/◌, ◌≤◌, ◌<◌, ◌^◌, Bool, true, false, List, [], ◌∷◌, ◌++◌, length, replicate, Option, Some, None}
 use Rattle.std.specs.List.{flat_map, AllByRecursion}
 use Rattle.std.specs.Int.{w16, w32, to_le_bytes}
 use Rattle.vec_names.specs.declared.tid.Tid.{Tid}
@@ -10,12 +10,14 @@ use Rattle.vec_names.specs.declared.params.Ops.{Ops}
 use Rattle.vec_names.specs.declared.params.Ops.TheVariants.{Hamming, Jaccard}
 use Rattle.vec_names.specs.declared.params.Params.{Params}
 use Rattle.vec_names.specs.Params.{IsInRange}
-use Rattle.vec_names.specs.Pointer.{tid_option_bytes, heap_id_bytes}
+use Rattle.vec_names.specs.Pointer.{tid_bytes, tid_option_bytes, heap_id_bytes, heap_id_option_bytes}
 use Rattle.bit_code.specs.Places.{packed}
 use Rattle.vec_tuples.specs.declared.meta.Meta.{Meta}
 use Rattle.vec_tuples.specs.declared.entry.EntryRow.{EntryRow}
 use Rattle.vec_tuples.specs.declared.centre.CentreTuple.{CentreTuple}
 use Rattle.vec_tuples.specs.declared.links.Links.{Links}
+use Rattle.vec_tuples.specs.declared.element.Element.{Element}
+use Rattle.vec_tuples.specs.declared.element.ElementHead.{ElementHead}
 
 -- ---- the meta tuple
 
@@ -122,3 +124,72 @@ pub record IsLinks (p : Params) (l : Links) : Type 0 where
   pub version_high : l.version ≤ 255
   pub count : IsSlotCount p.m (length l.tids)
   pub slots : AllByRecursion (IsSlotOf l.deleted) l.tids
+
+-- what stands before the slots: whether the element is deleted, its version, and the number of slots
+abbrev pub head_of_links : Links → Bool × ℕ × ℕ
+head_of_links l = (l.deleted, l.version, length l.tids)
+
+-- the bytes spell some neighbour tuple that has a slot of this number
+pub record HasSlot (bytes : List ℕ) (at : ℕ) : Type 0 where
+  pub links : Links
+  pub spelled : bytes ≡ links_bytes links
+  pub below : at < length links.tids
+
+-- ---- the element tuple
+
+abbrev pub deleted_byte : Bool → ℕ
+deleted_byte false = 0
+deleted_byte true = 1
+
+-- so many places, in which the rows stand first and then none
+unfoldable pub rows_bytes : ℕ → List HeapId → List ℕ
+rows_bytes zero ids = []
+rows_bytes (suc n) [] = heap_id_option_bytes None ++ rows_bytes n []
+rows_bytes (suc n) (id ∷ ids) = heap_id_bytes id ++ rows_bytes n ids
+
+abbrev pub head_with : ℕ → Bool → ℕ → List HeapId → Tid → ElementHead
+head_with level deleted version ids list_at = record { level = level; deleted = deleted; version = version; ids = record { items = ids }; list_at = list_at }
+
+-- an element is its head and its value
+abbrev pub element_with : ElementHead → List Bool → Element
+element_with h bits = record { level = h.level; deleted = h.deleted; version = h.version; ids = h.ids; list_at = h.list_at; bits = bits }
+
+abbrev pub head_of_element : Element → ElementHead
+head_of_element e = record { level = e.level; deleted = e.deleted; version = e.version; ids = e.ids; list_at = e.list_at }
+
+-- the 72 bytes before the value
+unfoldable pub head_bytes : ElementHead → List ℕ
+head_bytes h = 1 ∷ h.level ∷ deleted_byte h.deleted ∷ h.version ∷ rows_bytes 10 h.ids.items ++ (tid_bytes h.list_at ++ (0 ∷ 0 ∷ []))
+
+unfoldable pub element_bytes : Element → List ℕ
+element_bytes e = head_bytes (head_of_element e) ++ bits_bytes e.bits
+
+-- a deleted element names no row
+abbrev pub IsEmptyIf : Bool → List HeapId → Type 0
+IsEmptyIf false ids = Unit {0}
+IsEmptyIf true ids = ids ≡ []
+
+pub record IsHead (h : ElementHead) : Type 0 where
+  pub level : h.level ≤ 255
+  pub version_low : 1 ≤ h.version
+  pub version_high : h.version ≤ 255
+  pub few : length h.ids.items ≤ 10
+  pub none_left : IsEmptyIf h.deleted h.ids.items
+
+-- the value beside a head: a deleted element keeps its length alone
+abbrev pub beside : Bool → List Bool → List Bool
+beside false bits = bits
+beside true bits = replicate (length bits) false
+
+pub record IsElement (p : Params) (e : Element) : Type 0 where
+  pub head : IsHead (head_of_element e)
+  pub long : length e.bits ≡ p.bits
+  pub cleared : e.bits ≡ beside e.deleted e.bits
+
+-- ---- tuples with a value
+
+-- the bytes spell a tuple that has this value: of an element, of a list or of an entry
+pub data HasValue (bytes : List ℕ) (bits : List Bool) : Type 0 where
+  OfElement : (p : Params) (e : Element) → IsInRange p → IsElement p e → bytes ≡ element_bytes e → bits ≡ e.bits → HasValue bytes bits
+  OfCentre : (p : Params) (c : CentreTuple) → IsInRange p → IsCentre p c → bytes ≡ centre_bytes c → bits ≡ c.bits → HasValue bytes bits
+  OfEntry : (p : Params) (row : EntryRow) → IsInRange p → IsEntry p row → bytes ≡ entry_bytes row → bits ≡ row.bits → HasValue bytes bits

@@ -1,7 +1,7 @@
 //! The fields of tuples, each read from the front of the bytes.
 
 ghost use Rattle.std.specs.Prelude.{◌≡◌, ◌≤◌, IfOk};
-ghost use Rattle.vec_tuples.specs.Reading.{byte_from, two_bytes_from, four_bytes_from, optional_place, no_place, heap_id};
+ghost use Rattle.vec_tuples.specs.Reading.{byte_from, two_bytes_from, four_bytes_from, optional_place, no_place, place, heap_id};
 ghost use Rattle.vec_tuples.specs.Answers.{Gives};
 
 use crate::refused::Refused;
@@ -84,6 +84,20 @@ pub fn no_place(bytes: &[u8]) -> Result<(Option<Tid>, &[u8]), Refused>
     match Tid::read_option(*front) {
         Some(None) => Ok((None, rest)),
         _ => Err(Refused { left: bytes.len() }),
+    }
+}
+
+/// The place of an item.
+#[tactic(auto, unfolding(crate::specs::Reading::place, crate::specs::Reading::field))]
+pub fn place(bytes: &[u8]) -> Result<(Tid, &[u8]), Refused>
+    ensures { Gives (λ x. (x.0, x.1.now)) result (place bytes.now) }
+{
+    let Some((front, rest)) = bytes.split_first_chunk::<6>() else {
+        return Err(Refused { left: bytes.len() });
+    };
+    match Tid::read(*front) {
+        Some(place) => Ok((place, rest)),
+        None => Err(Refused { left: bytes.len() }),
     }
 }
 

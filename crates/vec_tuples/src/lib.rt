@@ -4,21 +4,30 @@
 
 mod bits;
 mod centre;
+mod element;
 mod entry;
 mod fault;
 mod fields;
+mod in_place;
 mod links;
 mod meta;
 mod parameters;
 mod pieces;
 mod refused;
+mod rows;
 mod slots;
+mod values;
 
 pub use centre::{CentreTuple, read_centre, set_aim, write_centre};
+pub use element::{
+    Element, ElementHead, element_head, fill_element, read_element, set_head, write_element,
+};
 pub use entry::{EntryRow, fill_entry, read_entry, write_entry};
 pub use fault::TupleFault;
+pub use in_place::{fill_links, links_head, set_slot, slot};
 pub use links::{Links, read_list, write_list};
 pub use meta::{Meta, fill_meta, read_meta, write_meta};
+pub use values::packed;
 
 #[cfg(test)]
 mod tests;

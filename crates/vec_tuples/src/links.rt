@@ -109,7 +109,7 @@ pub fn write_list(links: &Links, into: &mut Vec<u8>) -> Result<(), TupleFault>
 }
 
 /// The bytes before the slots.
-fn head(deleted: bool, version: u8, count: u16) -> [u8; 4]
+pub fn head(deleted: bool, version: u8, count: u16) -> [u8; 4]
     ensures { result ≡ links_kind deleted ∷ version ∷ to_le_bytes w16 count }
 {
     let c = count.to_le_bytes();

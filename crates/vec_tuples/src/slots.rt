@@ -4,7 +4,7 @@ ghost use Rattle.std.specs.Prelude.{◌≡◌, ◌≢◌, ◌≤◌, ◌<◌, �
 ghost use Rattle.std.specs.List.{flat_map};
 ghost use Rattle.vec_names.specs.Pointer.{tid_option_bytes};
 ghost use Rattle.vec_tuples.specs.Reading.{times, slot_of, slot_count, is_slot_count};
-ghost use Rattle.vec_tuples.specs.Answers.{Gives, GivesOr};
+ghost use Rattle.vec_tuples.specs.Answers.{Gives, GivesOr, Passes};
 
 use crate::fields::{no_place, optional_place};
 use crate::pieces::put;
@@ -76,21 +76,36 @@ pub fn slots(
     Ok((Listed::from_vec(places), rest))
 }
 
-#[tactic(auto, unfolding(crate::specs::Reading::slot_of))]
 fn slot_of(deleted: bool, bytes: &[u8]) -> Result<(Option<Tid>, &[u8]), Halt>
     ensures { GivesOr (λ x. (x.0, x.1.now)) result (slot_of deleted bytes.now) }
 {
-    if deleted {
-        match no_place(bytes) {
-            Ok(read) => Ok(read),
-            Err(refused) => Err(Halt::Bad { left: refused.left }),
-        }
-    } else {
-        match optional_place(bytes) {
-            Ok(read) => Ok(read),
-            Err(refused) => Err(Halt::Bad { left: refused.left }),
-        }
+    match one_slot(deleted, bytes) {
+        Ok(read) => Ok(read),
+        Err(refused) => Err(Halt::Bad { left: refused.left }),
     }
+}
+
+#[tactic(auto, unfolding(crate::specs::Reading::slot_of))]
+fn one_slot(deleted: bool, bytes: &[u8]) -> Result<(Option<Tid>, &[u8]), Refused>
+    ensures { Gives (λ x. (x.0, x.1.now)) result (slot_of deleted bytes.now) }
+{
+    if deleted {
+        no_place(bytes)
+    } else {
+        optional_place(bytes)
+    }
+}
+
+/// The bytes behind so many slots, each of which is looked at. It takes no memory.
+pub fn skip_slots(deleted: bool, count: u16, bytes: &[u8]) -> Result<&[u8], Refused>
+    ensures { Passes (λ rest. (count, rest.now)) length result (times (slot_of deleted) count bytes.now) }
+{
+    let mut rest = bytes;
+    'places: for _ in 0..count {
+        let (_, after) = one_slot(deleted, rest)?;
+        rest = after;
+    }
+    Ok(rest)
 }
 
 /// Puts the slots at the end of bytes that have room for them.

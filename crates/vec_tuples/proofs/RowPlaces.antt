@@ -1,0 +1,134 @@
+-- The places of an element's rows are read as they are spelled, one after the other.
+use Rattle.std.proofs.Common.{◌≡◌, ℕ, zero, suc, ◌+◌, ◌*◌, ◌-◌, ◌<◌, ◌≤◌, Bool, true, false, List, [], ◌∷◌, ◌++◌, length, take, drop, Option, Some, None, refl, sym, ap, subst, ◌∙◌, append_assoc, add-one, arith}
+use Rattle.std.specs.Prelude.{slice_get}
+use Rattle.std.specs.Option.{option_to_list, is_none}
+use Rattle.std.proofs.lemmas.List.{length-append, append-nil, drop_all}
+use Rattle.vec_names.specs.declared.heap_id.HeapId.{HeapId}
+use Rattle.vec_names.specs.Pointer.{heap_id_option_bytes}
+use Rattle.vec_tuples.specs.Spelling.{rows_bytes, IsEmptyIf}
+use Rattle.vec_tuples.specs.Reading.{Read, Got, Bad, ◌>>=◌, row_of, rows}
+use Rattle.vec_tuples.proofs.FieldLaws.{IsField, next_law, wider}
+use Rattle.vec_tuples.proofs.EachField.{optional_row_field, no_row_field, length-heap_id_option_bytes}
+use Rattle.vec_tuples.proofs.SlotLaws.{nothing_field}
+use Rattle.vec_tuples.proofs.SlotPlaces.{six_more}
+use Rattle.vec_tuples.proofs.Loops.{with_front, all_read}
+
+-- ---- one place
+
+abbrev pub IsNoneIf : Bool → Option HeapId → Type 0
+IsNoneIf false row = Unit {0}
+IsNoneIf true row = row ≡ None
+
+row_field : (closed : Bool) → IsField (row_of closed) heap_id_option_bytes (IsNoneIf closed) 6
+unfolding row_of
+row_field false = optional_row_field
+row_field true = no_row_field
+
+-- ---- so many places
+
+abbrev pub AreRows : Bool → ℕ → List HeapId → Type 0
+AreRows closed n ids = (length ids ≤ n) × IsEmptyIf closed ids
+
+no_rows : (closed : Bool) → IsEmptyIf closed []
+no_rows false = tt
+no_rows true = refl
+
+none_is_none : (closed : Bool) → IsNoneIf closed None
+none_is_none false = tt
+none_is_none true = refl
+
+nothing : (closed : Bool) (ids : List HeapId) → AreRows closed 0 ids → ids ≡ []
+nothing closed [] fits = refl
+nothing closed (id ∷ ids) fits = absurd (omega (arith, fits.0))
+
+-- the first place and the others
+apart : (closed : Bool) (n : ℕ) (ids : List HeapId) → AreRows closed (suc n) ids
+    → (row : Option HeapId) × (others : List HeapId) × (option_to_list row ++ others ≡ ids) × IsNoneIf closed row × AreRows (is_none row) n others
+    × (rows_bytes (suc n) ids ≡ heap_id_option_bytes row ++ rows_bytes n others)
+unfolding rows_bytes
+apart closed n [] fits = (None, [], refl, none_is_none closed, (omega arith, refl), refl)
+apart false n (id ∷ ids) fits = (Some id, ids, refl, tt, (omega (arith, fits.0), tt), refl)
+apart true n (id ∷ ids) fits = let e = fits.1 in absurd cc
+
+together : (closed : Bool) (n : ℕ) (row : Option HeapId) (others : List HeapId) → IsNoneIf closed row → AreRows (is_none row) n others
+    → AreRows closed (suc n) (option_to_list row ++ others) × (rows_bytes (suc n) (option_to_list row ++ others) ≡ heap_id_option_bytes row ++ rows_bytes n others)
+unfolding rows_bytes
+together closed n None others none fits = rw fits.1 ((omega arith, no_rows closed), refl)
+together false n (Some id) others none fits = ((omega (arith, fits.0), tt), refl)
+together true n (Some id) others none fits = absurd cc
+
+pub rows_field : (n : ℕ) (closed : Bool) → IsField (rows closed n) (rows_bytes n) (AreRows closed n) (n * 6)
+unfolding rows rows_bytes
+rows_field zero closed = wider 0 (0 * 6) (omega arith) (nothing_field (rows closed zero) (λ bytes. refl) (rows_bytes zero) (AreRows closed zero) refl (omega arith, no_rows closed) (nothing closed))
+rows_field (suc n) closed =
+    wider (6 + n * 6) (suc n * 6) (omega arith)
+    (next_law (λ row ids. option_to_list row ++ ids) (row_of closed) (λ row. rows (is_none row) n) (row_field closed) (λ row _. rows_field n (is_none row)) (rows_bytes (suc n)) (AreRows closed (suc n))
+    (apart closed n)
+    (λ row others none fits. together closed n row others none fits))
+
+-- ---- read by a loop
+
+regroup : (front more : List HeapId) (read : Read (List HeapId)) → with_front front (read >>= λ ids rest. Got (more ++ ids) rest) ≡ with_front (front ++ more) read
+regroup front more (Got ids rest) = ap (λ (v : List HeapId). Got v rest) (sym (append_assoc front more ids))
+regroup front more (Bad left) = refl
+
+rows_next : (closed : Bool) (n i : ℕ) (bytes : List ℕ) → i < n
+    → rows closed (n - i) bytes ≡ row_of closed bytes >>= λ row rest. rows (is_none row) (n - (i + 1)) rest >>= λ ids rest'. Got (option_to_list row ++ ids) rest'
+unfolding rows
+rows_next closed n i bytes lt =
+    let more : n - i ≡ suc (n - (i + 1)) = omega arith in
+    rw more refl
+
+pub rows_go_on : (front : List HeapId) (closed : Bool) (n i : ℕ) (bytes : List ℕ) (row : Option HeapId) (rest : List ℕ) (total : Read (List HeapId)) → i < n → row_of closed bytes ≡ Got row rest
+    → with_front front (rows closed (n - i) bytes) ≡ total → with_front (front ++ option_to_list row) (rows (is_none row) (n - (i + 1)) rest) ≡ total
+rows_go_on front closed n i bytes row rest total lt first so_far =
+    sym (regroup front (option_to_list row) (rows (is_none row) (n - (i + 1)) rest))
+    ∙ ap (λ r. with_front front (r >>= λ row rest. rows (is_none row) (n - (i + 1)) rest >>= λ ids rest'. Got (option_to_list row ++ ids) rest')) (sym first)
+    ∙ ap (λ r. with_front front r) (sym (rows_next closed n i bytes lt)) ∙ so_far
+
+pub rows_stop : (front : List HeapId) (closed : Bool) (n i : ℕ) (bytes : List ℕ) (left : ℕ) (total : Read (List HeapId)) → i < n → row_of closed bytes ≡ Bad left
+    → with_front front (rows closed (n - i) bytes) ≡ total → total ≡ Bad left
+rows_stop front closed n i bytes left total lt first so_far =
+    sym so_far ∙ ap (λ r. with_front front r) (rows_next closed n i bytes lt)
+    ∙ ap (λ r. with_front front (r >>= λ row rest. rows (is_none row) (n - (i + 1)) rest >>= λ ids rest'. Got (option_to_list row ++ ids) rest')) first
+
+pub rows_done : (front : List HeapId) (closed : Bool) (n i : ℕ) (bytes : List ℕ) (total : Read (List HeapId)) → n ≤ i → with_front front (rows closed (n - i) bytes) ≡ total → total ≡ Got front bytes
+unfolding rows
+rows_done front closed n i bytes total le so_far =
+    let none : n - i ≡ 0 = omega arith in
+    all_read front bytes _ total (rw none refl) so_far
+
+-- ---- written by a loop
+
+pub length-rows_bytes : (n : ℕ) (ids : List HeapId) → length (rows_bytes n ids) ≡ 6 * n
+unfolding rows_bytes
+length-rows_bytes zero ids = refl
+length-rows_bytes (suc n) [] = length-append (heap_id_option_bytes None) (rows_bytes n []) ∙ omega (arith, length-heap_id_option_bytes None, length-rows_bytes n [])
+length-rows_bytes (suc n) (id ∷ ids) = length-append (heap_id_option_bytes (Some id)) (rows_bytes n ids) ∙ omega (arith, length-heap_id_option_bytes (Some id), length-rows_bytes n ids)
+
+rows_more : (at : ℕ) (ids : List HeapId) → rows_bytes (suc at) ids ≡ rows_bytes at ids ++ heap_id_option_bytes (slice_get ids at)
+unfolding rows_bytes
+rows_more zero [] = append-nil (heap_id_option_bytes None)
+rows_more zero (id ∷ ids) = append-nil (heap_id_option_bytes (Some id))
+rows_more (suc at) [] = ap (λ (t : List ℕ). heap_id_option_bytes None ++ t) (rows_more at []) ∙ sym (append_assoc (heap_id_option_bytes None) (rows_bytes at []) (heap_id_option_bytes None))
+rows_more (suc at) (id ∷ ids) = ap (λ (t : List ℕ). heap_id_option_bytes (Some id) ++ t) (rows_more at ids) ∙ sym (append_assoc (heap_id_option_bytes (Some id)) (rows_bytes at ids) (heap_id_option_bytes (slice_get ids at)))
+
+-- one more place is written behind those before it
+pub rows_written : (ids : List HeapId) (at : ℕ) (old bytes : List ℕ) → bytes ≡ rows_bytes at ids ++ drop (6 * at) old
+    → take (6 * at) bytes ++ (heap_id_option_bytes (slice_get ids at) ++ drop (6 * at + 6) bytes) ≡ rows_bytes (at + 1) ids ++ drop (6 * (at + 1)) old
+rows_written ids at old bytes so_far =
+    six_more (rows_bytes at ids) at old bytes (heap_id_option_bytes (slice_get ids at)) (length-rows_bytes at ids) so_far
+    ∙ ap (λ (t : List ℕ). t ++ drop (6 * (at + 1)) old) (sym (ap (λ n. rows_bytes n ids) (add-one at) ∙ rows_more at ids))
+
+pub none_written : (ids : List HeapId) (old : List ℕ) → old ≡ rows_bytes 0 ids ++ old
+unfolding rows_bytes
+none_written ids old = refl
+
+-- and behind the last of ten none is left
+pub all_written : (ids : List HeapId) (old bytes : List ℕ) → length old ≡ 60 → bytes ≡ rows_bytes 10 ids ++ drop 60 old → bytes ≡ rows_bytes 10 ids
+all_written ids old bytes long so_far =
+    so_far ∙ ap (λ (t : List ℕ). rows_bytes 10 ids ++ t) (drop_all 60 old (omega (arith, long))) ∙ append-nil (rows_bytes 10 ids)
+
+pub one_at_most : (front : List HeapId) (row : Option HeapId) (n : ℕ) → length front ≤ n → length (front ++ option_to_list row) ≤ n + 1
+one_at_most front None n few = rw (append-nil front) (omega (arith, few))
+one_at_most front (Some id) n few = omega (arith, few, length-append front (id ∷ []))

@@ -1,0 +1,7 @@
+use Rattle.std.proofs.Common.{◌≡◌, ◌≤◌, ◌-◌, length}
+use Rattle.vec_tuples.specs.Reading.{rows}
+use Rattle.vec_tuples.proofs.Loops.{with_front}
+use Rattle.vec_tuples.proofs.rows.rows.Given as goal
+
+abbrev pub invariant-places : goal.invariant-places
+invariant-places l = (length l.ids.items ≤ l.counter) × (with_front l.ids.items (rows l.shut (10 - l.counter) l.rest) ≡ rows l.closed 10 l.bytes)
