@@ -3,3 +3,4 @@ pub mod Search
 pub mod Descent
 pub mod Scan
 pub mod Insert
+pub mod Examples

@@ -7,7 +7,7 @@
 
 mod law;
 
-pub use law::law_search;
+pub use law::{law_search, law_worked_search};
 
 #[cfg(test)]
 mod tests;

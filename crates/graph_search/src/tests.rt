@@ -4,4 +4,5 @@ use super::*;
 #[test]
 fn laws_of_searches() {
     law_search();
+    law_worked_search();
 }

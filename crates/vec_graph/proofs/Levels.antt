@@ -82,13 +82,13 @@ along base before (a ∷ acts) legal on q level has =
     let has_later = subst (λ g. HasLevel g q level) one (on_event base before a.desk a.event legal.0 on q level has) in
     subst (λ h. HasLevel (after base h) q level) (append_assoc before (a ∷ []) acts) (along base (before ++ a ∷ []) acts legal.1 on_later q level has_later)
 
-rest_after : (base : Graph) (before acts : List Act) (n : ℕ) → IsLegalAfter base before acts → IsLegalAfter base (before ++ take n acts) (drop n acts)
+pub rest_after : (base : Graph) (before acts : List Act) (n : ℕ) → IsLegalAfter base before acts → IsLegalAfter base (before ++ take n acts) (drop n acts)
 rest_after base before acts zero legal = subst (λ h. IsLegalAfter base h acts) (sym (append-nil before)) legal
 rest_after base before [] (suc n) legal = tt
 rest_after base before (a ∷ acts) (suc n) legal =
     subst (λ h. IsLegalAfter base h (drop n acts)) (append_assoc before (a ∷ []) (take n acts)) (rest_after base (before ++ a ∷ []) acts n legal.1)
 
-on_along : (g : Graph) (acts : List Act) → IsOnBlocks g → IsOnBlocks (after g acts)
+pub on_along : (g : Graph) (acts : List Act) → IsOnBlocks g → IsOnBlocks (after g acts)
 on_along g [] on = on
 on_along g (a ∷ acts) on = on_along (effect 255 a.event g) acts (on_effect a.event g on)
 

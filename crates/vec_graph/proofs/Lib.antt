@@ -5,3 +5,6 @@ pub mod Levels
 pub mod Layers
 pub mod FirstInsert
 pub mod IdleVacuum
+pub mod Further
+pub mod Remaining
+pub mod Later

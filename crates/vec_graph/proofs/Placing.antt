@@ -115,12 +115,15 @@ fresh_on_numbers g b level s e =
       | false ↦ λ is. fresh_numbers b (next_off g b) (b + 1) (next_off g (b + 1)) s (then_some _ _ s is)
     ] e
 
-fresh_free : (g : Graph) (b level : ℕ) (s : Spot) → fresh_on g b level ≡ Some s → IsFree g s.at level
-fresh_free g b level s e = λ n stands.
+none_fresh : (g : Graph) (b level : ℕ) (s : Spot) → fresh_on g b level ≡ Some s → (n : Node) → node_at g s.at ≡ Some n → ⊥
+none_fresh g b level s e n stands =
     let numbers = fresh_on_numbers g b level s e in
     let low = within s.at n (fin.entries g.nodes) (sym (fin.get-entries g.nodes s.at) ∙ stands) in
     let low_there = subst (λ (k : ℕ). s.at.off ≤ greatest_off k (fin.entries g.nodes)) numbers.0 low in
     absurd (omega (arith, low_there, numbers.1))
+
+fresh_free : (g : Graph) (b level : ℕ) (s : Spot) → fresh_on g b level ≡ Some s → IsFree g s.at level
+fresh_free g b level s e = λ n stands. absurd (none_fresh g b level s e n stands)
 
 -- ---- places used anew
 
@@ -137,8 +140,8 @@ on_block_free g b level s None found is = fresh_free g b level s is
 on_block_free g b level s (Some e) found is =
     subst (λ (t : Tid). IsFree g t level) (ap (λ (t : Spot). t.at) (same_Some _ s is)) (reused_free g b level e found)
 
-new_free : (g : Graph) (level : ℕ) (s : Spot) → IsOnBlocks g → new_place g level ≡ Some s → IsFree g s.at level
-new_free g level s on e = λ n stands.
+none_new : (g : Graph) (level : ℕ) (s : Spot) → IsOnBlocks g → new_place g level ≡ Some s → (n : Node) → node_at g s.at ≡ Some n → ⊥
+none_new g level s on e n stands =
     let here : s.at.block ≡ g.blocks =
     elim (fits_one_page g level) as (λ t. cond t (fresh_at g.blocks 1 g.blocks 2) (fresh_at g.blocks 1 (g.blocks + 1) 1) ≡ Some s → s.at.block ≡ g.blocks) [
       | true ↦ λ is. (fresh_numbers g.blocks 1 g.blocks 2 s is).0
@@ -147,9 +150,31 @@ new_free g level s on e = λ n stands.
     let low = (on s.at n stands).0 in
     absurd (omega (arith, here, low))
 
+new_free : (g : Graph) (level : ℕ) (s : Spot) → IsOnBlocks g → new_place g level ≡ Some s → IsFree g s.at level
+new_free g level s on e = λ n stands. absurd (none_new g level s on e n stands)
+
 pub free_place : (g : Graph) (at : Tid) (level : ℕ) (s : Spot) → IsOnBlocks g → IsPlaced g at level s → IsFree g s.at level
 free_place g at level s on (inl is) = on_block_free g at.block level s _ refl (then_some _ _ s is)
 free_place g at level s on (inr is) = new_free g level s on is.0
+
+-- a place that is used anew keeps the place of its list
+
+reused_list : (g : Graph) (b level : ℕ) (e : Tid × Node) → find (is_reusable b level) (fin.entries g.nodes) ≡ Some e → (n : Node) → node_at g e.0 ≡ Some n
+    → n.list_at ≡ e.1.list_at
+reused_list g b level e is n stands =
+    let there = fin.get-entries g.nodes e.0 ∙ stands_there tid_cmp tid_cmp_total (fin.entries g.nodes) (is_reusable b level) e (fin.entries_sorted g.nodes) is in
+    ap (λ (m : Node). m.list_at) (same_Some _ _ (sym stands ∙ there))
+
+on_block_list : (g : Graph) (b level : ℕ) (s : Spot) (o : Option (Tid × Node)) → find (is_reusable b level) (fin.entries g.nodes) ≡ o
+    → or_else (reused o) (fresh_on g b level) ≡ Some s → (n : Node) → node_at g s.at ≡ Some n → n.list_at ≡ s.list_at
+on_block_list g b level s None found is n stands = absurd (none_fresh g b level s is n stands)
+on_block_list g b level s (Some e) found is n stands =
+    let spot = same_Some _ s is in
+    reused_list g b level e found n (subst (λ (t : Tid). node_at g t ≡ Some n) (sym (ap (λ (t : Spot). t.at) spot)) stands) ∙ ap (λ (t : Spot). t.list_at) spot
+
+pub same_list : (g : Graph) (at : Tid) (level : ℕ) (s : Spot) → IsOnBlocks g → IsPlaced g at level s → (n : Node) → node_at g s.at ≡ Some n → n.list_at ≡ s.list_at
+same_list g at level s on (inl is) n stands = on_block_list g at.block level s _ refl (then_some _ _ s is) n stands
+same_list g at level s on (inr is) n stands = absurd (none_new g level s on is.0 n stands)
 
 -- ---- what stands on blocks stays there
 

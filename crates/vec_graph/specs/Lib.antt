@@ -6,4 +6,5 @@ pub mod Cleaning
 pub mod Rules
 pub mod Legal
 pub mod Sound
+pub mod Asking
 pub mod Examples

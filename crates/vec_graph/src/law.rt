@@ -3,6 +3,8 @@
 ghost use Rattle.std.specs.Prelude.{◌≡◌, ◌≢◌, ◌⊎◌, ℕ, ◌++◌, ◌∷◌, [], true, false, take, slice_get, Some, None, List, Bool, Option, ◌≤◌, ◌↔◌, length, Contains};
 ghost use Rattle.vec_names.specs.declared.tid.Tid.{Tid as Tids};
 ghost use Rattle.vec_event.specs.declared.event.Act.{Act};
+ghost use Rattle.vec_event.specs.declared.event.Event.{Event as Events};
+ghost use Rattle.vec_graph.specs.Asking.{IsAsked};
 ghost use Rattle.vec_event.specs.declared.gate.Gate.{Gate as Gates};
 ghost use Rattle.vec_event.specs.declared.gate.Hold.{Hold as Holding};
 ghost use Rattle.vec_event.specs.declared.gate.Hold.TheVariants.{Alone};
@@ -111,4 +113,13 @@ pub fn law_idle_vacuum(base: &Graph)
     requires no_nodes { base.now.nodes ≡ map.empty }
     requires no_entry { base.now.entry ≡ None }
     ensures { (desk : ℕ) → IsLegal base.now (idle_vacuum desk) }
+{}
+
+/// A law, and no work. What the rules ask of a desk's next event, other than what a step answers by a word, holds on while other
+/// desks act, up to the desk's own next act.
+pub fn law_later(base: &Graph, acts: &[Act])
+    requires legal { IsLegal base.now acts.now }
+    requires on_blocks { IsOnBlocks base.now }
+    ensures { (n desk : ℕ) (e : Events) → ((k : ℕ) (a : Act) → n ≤ k → slice_get acts.now k ≡ Some a → a.desk ≢ desk)
+        → IsAsked base.now (take n acts.now) desk e → IsAsked base.now acts.now desk e }
 {}

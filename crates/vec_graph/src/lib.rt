@@ -12,8 +12,8 @@ mod node;
 
 pub use graph::Graph;
 pub use law::{
-    law_alone, law_cut, law_entries, law_examples, law_first_insert, law_idle_vacuum, law_layers,
-    law_levels, law_live, law_places,
+    law_alone, law_cut, law_entries, law_examples, law_first_insert, law_idle_vacuum, law_later,
+    law_layers, law_levels, law_live, law_places,
 };
 pub use node::Node;
 
