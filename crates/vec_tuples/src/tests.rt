@@ -1,4 +1,5 @@
 use super::*;
+use arrayvec::ArrayVec;
 use std::alloc::Global;
 use std::test::*;
 use vec_names::{HeapId, Kind, Ops, Params, Tid};
@@ -145,6 +146,7 @@ fn entries_and_centres_there_and_back(rt: HostRuntime) -> Result<(), TupleFault>
     let params = FOUR;
     assert!(rt; params.check());
     let row = read_entry(rt.alloc(), &ENTRY, &params)?;
+    assert!(rt; packed(&ENTRY) == [0x30].as_slice());
     assert!(rt; Some(row.id) == HeapId::new(1, 2) && row.bits.count() == 4);
     assert!(rt; row.bits.bytes() == [0x30].as_slice());
     let mut written = Vec::new(rt.alloc());
@@ -157,6 +159,7 @@ fn entries_and_centres_there_and_back(rt: HostRuntime) -> Result<(), TupleFault>
     assert!(rt; written.as_slice() == ENTRY.as_slice());
 
     let centre = read_centre(rt.alloc(), &CENTRE, &params)?;
+    assert!(rt; packed(&CENTRE) == [0x30].as_slice());
     assert!(rt; centre.first == 3 && centre.aim == 5 && centre.bits.get(3));
     let mut again = Vec::new(rt.alloc());
     write_centre(&centre, &mut again)?;
@@ -297,6 +300,10 @@ fn damaged_links_by_place(rt: HostRuntime) {
             Some(TupleFault::Bad { at })
         );
     }
+    // The four empty slots of an element of level 0, which were just made.
+    let mut empty = LINKS;
+    empty[4..10].copy_from_slice(&[255, 255, 255, 255, 0, 0]);
+    assert!(rt; links_fault(rt.alloc(), &empty).is_none());
     for cut in 0..28 {
         let at = if cut < 2 {
             cut as u16
@@ -307,6 +314,181 @@ fn damaged_links_by_place(rt: HostRuntime) {
         };
         assert_eq!(rt;
             links_fault(rt.alloc(), &LINKS[..cut]),
+            Some(TupleFault::Bad { at })
+        );
+        assert_eq!(rt;
+            links_fault(rt.alloc(), &empty[..cut]),
+            Some(TupleFault::Bad { at })
+        );
+    }
+}
+
+#[test]
+fn links_in_place(rt: HostRuntime) -> Result<(), TupleFault> {
+    let params = SMALL;
+    assert!(rt; params.check());
+    assert!(rt; links_head(&LINKS, &params) == Some((false, 1, 4)));
+    assert!(rt; links_head(&LINKS[..27], &params).is_none());
+    let links = read_list(rt.alloc(), &LINKS, &params)?;
+    assert!(rt; links.tids.len() == 4);
+    assert!(rt; slot(&LINKS, 0) == Tid::new(1, 3));
+    assert!(rt; slot(&LINKS, 3).is_none());
+    let mut changed = LINKS;
+    set_slot(&mut changed, 1, Tid::new(258, 5));
+    assert!(rt; changed[..10] == LINKS[..10] && changed[16..] == LINKS[16..]);
+    assert!(rt; changed[10..16] == [0, 0, 2, 1, 5, 0]);
+    let mut filled = [9u8; 28];
+    fill_links(
+        links.deleted,
+        links.version,
+        links.tids.as_slice(),
+        &mut filled,
+    );
+    assert!(rt; filled == LINKS);
+    Ok(())
+}
+
+/// The element of the row 1/1 with the value 0000, level 0 and version 1, whose neighbour tuple is at 1/2.
+const ELEMENT: [u8; 81] = [
+    1, 0, 0, 1, 0, 0, 1, 0, 1, 0, 255, 255, 255, 255, 0, 0, 255, 255, 255, 255, 0, 0, 255, 255,
+    255, 255, 0, 0, 255, 255, 255, 255, 0, 0, 255, 255, 255, 255, 0, 0, 255, 255, 255, 255, 0, 0,
+    255, 255, 255, 255, 0, 0, 255, 255, 255, 255, 0, 0, 255, 255, 255, 255, 0, 0, 0, 0, 1, 0, 2, 0,
+    0, 0, 0x24, 0, 0, 0, 4, 0, 0, 0, 0,
+];
+
+fn element_fault(alloc: Global, bytes: &[u8]) -> Option<TupleFault> {
+    let params = SMALL;
+    if !params.check() {
+        return None;
+    }
+    match read_element(alloc, bytes, &params) {
+        Ok(_) => None,
+        Err(fault) => Some(fault),
+    }
+}
+
+#[test]
+fn elements_there_and_back(rt: HostRuntime) -> Result<(), TupleFault> {
+    let params = SMALL;
+    assert!(rt; params.check());
+    let element = read_element(rt.alloc(), &ELEMENT, &params)?;
+    assert!(rt; packed(&ELEMENT) == [0].as_slice());
+    assert!(rt; element.level == 0 && !element.deleted && element.version == 1);
+    assert!(rt;
+        element.ids.len() == 1 && element.ids.as_slice().first().copied() == HeapId::new(1, 1)
+    );
+    assert!(rt; Some(element.list_at) == Tid::new(1, 2));
+    assert!(rt; element.bits.count() == 4 && element.bits.bytes() == [0].as_slice());
+    let mut written = Vec::new(rt.alloc());
+    write_element(&element, &mut written)?;
+    assert!(rt; written.as_slice() == ELEMENT.as_slice());
+    Ok(())
+}
+
+#[test]
+fn element_heads_in_place(rt: HostRuntime) -> Result<(), TupleFault> {
+    let params = SMALL;
+    assert!(rt; params.check());
+    let mut bytes = ELEMENT;
+    bytes[80] = 0x30;
+    let element = read_element(rt.alloc(), &bytes, &params)?;
+    assert!(rt; element_head(&bytes[..80], &params).is_none());
+    if let Some(mut head) = element_head(&bytes, &params) {
+        assert!(rt; head.level == 0 && !head.deleted && head.version == 1);
+        assert!(rt; head.ids.len() == 1 && Some(head.list_at) == Tid::new(1, 2));
+        let mut filled = [9u8; 81];
+        if element.bits.count() == 4 {
+            fill_element(&head, &element.bits, &mut filled);
+        }
+        assert!(rt; filled == bytes);
+        head.version = 2;
+        set_head(&mut filled, &head);
+        assert!(rt; filled[3] == 2 && filled[4..] == bytes[4..]);
+        head.deleted = true;
+        head.ids = ArrayVec::new();
+        set_head(&mut filled, &head);
+        assert!(rt; filled[..10] == [1, 0, 1, 2, 255, 255, 255, 255, 0, 0]);
+        assert!(rt; filled[10..80] == ELEMENT[10..80] && filled[80] == 0);
+    } else {
+        assert!(rt; false);
+    }
+    Ok(())
+}
+
+#[test]
+fn damaged_elements_by_place(rt: HostRuntime) {
+    for (place, byte, at) in [
+        (0, 2, 0),
+        (2, 2, 2),
+        (2, 1, 4),
+        (3, 0, 3),
+        (8, 0, 4),
+        (64, 1, 64),
+        (68, 0, 64),
+        (71, 1, 70),
+        (72, 0x28, 72),
+        (76, 5, 76),
+        (80, 0x38, 80),
+    ] {
+        let mut bytes = ELEMENT;
+        if let Some(there) = bytes.get_mut(place) {
+            *there = byte;
+        }
+        assert_eq!(rt;
+            element_fault(rt.alloc(), &bytes),
+            Some(TupleFault::Bad { at })
+        );
+    }
+    // A row stands in each place behind the second, which is empty; and an offset beside no block.
+    for place in 2..10usize {
+        let from = 4 + 6 * place;
+        let mut bytes = ELEMENT;
+        bytes[from..from + 6].copy_from_slice(&[0, 0, 1, 0, 1, 0]);
+        assert_eq!(rt;
+            element_fault(rt.alloc(), &bytes),
+            Some(TupleFault::Bad { at: from as u16 })
+        );
+        let mut odd = ELEMENT;
+        odd[from + 4] = 1;
+        assert_eq!(rt;
+            element_fault(rt.alloc(), &odd),
+            Some(TupleFault::Bad { at: from as u16 })
+        );
+    }
+    // A deleted element with a set place.
+    let mut deleted = ELEMENT;
+    deleted[2] = 1;
+    deleted[4..10].copy_from_slice(&[255, 255, 255, 255, 0, 0]);
+    assert!(rt; element_fault(rt.alloc(), &deleted).is_none());
+    deleted[80] = 0x10;
+    assert_eq!(rt;
+        element_fault(rt.alloc(), &deleted),
+        Some(TupleFault::Bad { at: 80 })
+    );
+    let mut longer = [0u8; 82];
+    longer[..81].copy_from_slice(&ELEMENT);
+    assert_eq!(rt;
+        element_fault(rt.alloc(), &longer),
+        Some(TupleFault::Bad { at: 81 })
+    );
+}
+
+#[test]
+fn cut_elements_by_place(rt: HostRuntime) {
+    for cut in 0..81 {
+        let at = if cut < 4 {
+            cut as u16
+        } else if cut < 64 {
+            ((cut - 4) / 6 * 6 + 4) as u16
+        } else if cut < 70 {
+            64
+        } else if cut < 72 {
+            70
+        } else {
+            (cut / 4 * 4) as u16
+        };
+        assert_eq!(rt;
+            element_fault(rt.alloc(), &ELEMENT[..cut]),
             Some(TupleFault::Bad { at })
         );
     }

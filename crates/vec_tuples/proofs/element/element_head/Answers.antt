@@ -1,4 +1,4 @@
-use Rattle.std.proofs.Common.{Some, ap, ◌∙◌, take, arith}
+use Rattle.std.proofs.Common.{Some, ap, take, arith}
 use Rattle.bit_code.specs.Places.{unpacked}
 use Rattle.vec_tuples.specs.Spelling.{element_with, head_of_element}
 use Rattle.vec_tuples.proofs.ElementLaws.{element_field}

@@ -1,4 +1,4 @@
-use Rattle.std.proofs.Common.{◌∙◌, sym, arith}
+use Rattle.std.proofs.Common.{arith}
 use Rattle.vec_tuples.proofs.SlotPlaces.{slots_more}
 use Rattle.vec_tuples.proofs.in_place.fill_slots.Goals as goal
 

@@ -1,4 +1,4 @@
-use Rattle.std.proofs.Common.{eqb, refl, ap, sym}
+use Rattle.std.proofs.Common.{eqb, refl}
 use Rattle.vec_tuples.specs.Spelling.{links_with}
 use Rattle.vec_tuples.specs.Reading.{links}
 use Rattle.vec_tuples.proofs.in_place.head_at.Goals as goal

@@ -1,4 +1,4 @@
-use Rattle.std.proofs.Common.{◌∙◌, arith}
+use Rattle.std.proofs.Common.{arith}
 use Rattle.vec_tuples.proofs.SlotPlaces.{slot_below, slot_set}
 use Rattle.vec_tuples.proofs.in_place.set_slot.Goals as goal
 

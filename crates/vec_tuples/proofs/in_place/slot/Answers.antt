@@ -1,6 +1,4 @@
-use Rattle.std.proofs.Common.{◌≡◌, Option, Some, None, sym, ap, ◌∙◌}
-use Rattle.vec_names.specs.declared.tid.Tid.{Tid}
-use Rattle.vec_tuples.proofs.EachField.{some_is}
+use Rattle.std.proofs.Common.{◌≡◌, Option, Some, None, sym, ◌∙◌}
 use Rattle.vec_tuples.proofs.SlotPlaces.{slot_inside, slot_below, slot_six, slot_get}
 use Rattle.vec_tuples.proofs.in_place.slot.Goals as goal
 

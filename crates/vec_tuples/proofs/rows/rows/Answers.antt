@@ -1,4 +1,3 @@
-use Rattle.std.proofs.Common.{◌∙◌, refl, arith}
 use Rattle.std.proofs.lemmas.Result.{err_from_is_err_and}
 use Rattle.vec_tuples.specs.Reading.{rows}
 use Rattle.vec_tuples.proofs.RowPlaces.{rows_go_on, rows_stop, rows_done, one_at_most}
