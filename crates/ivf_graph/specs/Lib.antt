@@ -1,0 +1,6 @@
+pub mod Graph
+pub mod Effect
+pub mod Rules
+pub mod Legal
+pub mod Answer
+pub mod Examples
