@@ -7,12 +7,12 @@ use Rattle.std.proofs.lemmas.List.Sorted.{sorted_far}
 use Rattle.bit_dist.specs.Ranking.{placed, ranked}
 
 -- no element of the list is less than x
-abbrev NoneLess : {X : Type 0} → (X → X → Bool) → X → List X → Type 0
+abbrev pub NoneLess : {X : Type 0} → (X → X → Bool) → X → List X → Type 0
 NoneLess lt x [] = Unit {0}
 NoneLess lt x (y ∷ ys) = (lt y x ≡ false) × NoneLess lt x ys
 
 -- no element is less than one before it
-abbrev Rises : {X : Type 0} → (X → X → Bool) → List X → Type 0
+abbrev pub Rises : {X : Type 0} → (X → X → Bool) → List X → Type 0
 Rises lt [] = Unit {0}
 Rises lt (x ∷ xs) = NoneLess lt x xs × Rises lt xs
 
@@ -130,7 +130,7 @@ rises_placed lt o x (y ∷ ys) rises = by_test (lt y x) refl (rises_placed lt o 
     by_test true less further = (none_less_placed lt x y ys (o.one_way y x less) rises.0, further)
     by_test false not_less further = ((not_less, none_less_through lt o x y ys not_less rises.0), rises)
 
-rises_ranked : {X : Type 0} (lt : X → X → Bool) → IsStrictWeakOrder lt → (xs : List X) → Rises lt (ranked lt xs)
+pub rises_ranked : {X : Type 0} (lt : X → X → Bool) → IsStrictWeakOrder lt → (xs : List X) → Rises lt (ranked lt xs)
 rises_ranked lt o [] = tt
 rises_ranked lt o (x ∷ xs) = rises_placed lt o x (ranked lt xs) (rises_ranked lt o xs)
 

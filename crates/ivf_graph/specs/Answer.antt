@@ -61,9 +61,21 @@ abbrev pub found_cmp : Found → Found → Ordering
 found_cmp a b = ordering_then (dist_cmp a.distance b.distance)
     (ordering_then (heap_id_cmp a.id b.id) (ordering_then (nat_cmp a.block b.block) (nat_cmp a.offset b.offset)))
 
-abbrev pub is_before : Found → Found → Bool
-is_before a b = is_lt (found_cmp a b)
+-- what is answered of a row
+abbrev pub Hit : Type 0
+Hit = Dist × HeapId
 
--- the rows of the probed lists in order, each as its distance and its name
-abbrev pub ivf_answer : IvfGraph → List Bool → ℕ → List (Dist × HeapId)
-ivf_answer g query probes = map (λ f. (f.distance, f.id)) (ranked is_before (found g query probes))
+abbrev pub hit_of : Found → Hit
+hit_of f = (f.distance, f.id)
+
+-- by distance, then by name
+abbrev pub hit_cmp : Hit → Hit → Ordering
+hit_cmp a b = ordering_then (dist_cmp a.0 b.0) (heap_id_cmp a.1 b.1)
+
+-- the rows found, in order
+abbrev pub answer_of : List Found → List Hit
+answer_of fs = map hit_of (ranked (λ a b. is_lt (found_cmp a b)) fs)
+
+-- the rows of the lists that are probed for a query, in order
+abbrev pub ivf_answer : IvfGraph → List Bool → ℕ → List Hit
+ivf_answer g query probes = answer_of (found g query probes)

@@ -11,7 +11,7 @@ mod law;
 mod list;
 
 pub use graph::IvfGraph;
-pub use law::{law_alone, law_cut, law_rows};
+pub use law::{law_alone, law_answer, law_cut, law_examples, law_rows};
 pub use list::IvfList;
 
 #[cfg(test)]

@@ -14,4 +14,6 @@ fn laws_before_any_act(rt: HostRuntime) {
     law_cut(&base, &acts);
     law_alone(&base, &acts);
     law_rows(&base);
+    law_answer(&base);
+    law_examples();
 }
