@@ -1,3 +1,5 @@
 pub mod Prefixes
 pub mod SameRows
 pub mod AnswerOrder
+pub mod FirstFound
+pub mod FromTheEnd

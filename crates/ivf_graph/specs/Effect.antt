@@ -88,3 +88,9 @@ after g (a ∷ acts) = after (effect a.event g) acts
 -- the index after the first n acts
 abbrev pub state_after : IvfGraph → List Act → ℕ → IvfGraph
 state_after base acts n = after base (take n acts)
+
+-- what the event makes of the rows of its block
+abbrev pub row_change : Event → List Row → List Row
+row_change (IvfAdd block id bits) rows = with_row (id, bits) rows
+row_change (IvfDrop block gone) rows = others gone 1 rows
+row_change _ rows = rows

@@ -1,5 +1,5 @@
 -- The index of lists: chains of blocks, the rows of a block, and the room of a page.
-use Rattle.std.specs.Prelude.{◌≡◌, ℕ, ◌+◌, ◌*◌, ◌-◌, ◌/◌, ◌≤◌, ◌==◌, Bool, List, All, find, length, map, slice_get, sum_by, Option}
+use Rattle.std.specs.Prelude.{◌≡◌, ℕ, ◌+◌, ◌*◌, ◌-◌, ◌/◌, ◌≤◌, ◌==◌, Bool, List, All, Any, find, length, slice_get, sum_by, Option}
 use Rattle.std.specs.List.{flat_map}
 use Rattle.std.specs.Option.{option_map}
 use Rattle.vec_names.specs.declared.heap_id.HeapId.{HeapId}
@@ -20,9 +20,9 @@ Part = ℕ × List Row
 abbrev pub parts : IvfGraph → List Part
 parts g = flat_map (λ l. l.chain) g.lists
 
--- the numbers of a chain's blocks
-abbrev pub numbers : List Part → List ℕ
-numbers chain = map (λ p. p.0) chain
+-- the block is one of the chain
+abbrev pub IsOfChain : List Part → ℕ → Type 0
+IsOfChain chain block = Any (λ p. p.0 ≡ block) chain
 
 -- the block that ends a chain
 abbrev pub last_block : List Part → Option ℕ

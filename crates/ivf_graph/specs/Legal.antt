@@ -2,11 +2,12 @@
 use Rattle.std.specs.Prelude.{◌≡◌, ℕ, List, [], ◌∷◌, ◌++◌, take, slice_get, Some, ⊤}
 use Rattle.vec_event.specs.declared.event.Act.{Act}
 use Rattle.ivf_graph.specs.declared.graph.IvfGraph.{IvfGraph}
+use Rattle.ivf_graph.specs.Effect.{after}
 use Rattle.ivf_graph.specs.Rules.{IsEventAllowed}
 
--- the act may come after these acts
+-- the act may come after these acts, which begin at a base
 abbrev pub IsAllowed : IvfGraph → List Act → Act → Type 0
-IsAllowed base before a = IsEventAllowed base before a.desk a.event
+IsAllowed base before a = IsEventAllowed (after base before) before a.desk a.event
 
 -- each of these acts is allowed after those before it, of which the first ones are given
 abbrev pub IsLegalAfter : IvfGraph → List Act → List Act → Type 0

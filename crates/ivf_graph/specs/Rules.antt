@@ -1,5 +1,5 @@
--- Which event a desk may make after a list of acts: one word for each kind of event. A base is the index that the acts begin at.
-use Rattle.std.specs.Prelude.{◌≡◌, ℕ, ◌<◌, ◌≤◌, ◌≢◌, Bool, List, [], All, Contains, length, slice_get, Some}
+-- Which event a desk may make after a list of acts, which led to an index: one word for each kind of event.
+use Rattle.std.specs.Prelude.{◌≡◌, ℕ, ◌<◌, ◌≤◌, ◌≢◌, Bool, List, [], All, length, slice_get, Some}
 use Rattle.std.specs.List.Sorted.{IsStrictlyIncreasing}
 use Rattle.vec_event.specs.declared.event.Event.{Event}
 use Rattle.vec_event.specs.declared.event.Event.TheVariants as event
@@ -11,8 +11,7 @@ use Rattle.vec_history.specs.Phases.{IsUngateAllowed}
 use Rattle.vec_history.specs.Settling.{IsSettledAllowed, IsFaultAllowed}
 use Rattle.ivf_graph.specs.declared.list.IvfList.{IvfList}
 use Rattle.ivf_graph.specs.declared.graph.IvfGraph.{IvfGraph}
-use Rattle.ivf_graph.specs.Graph.{Row, numbers, last_block, rows_on, HasRoom, IsAsLong}
-use Rattle.ivf_graph.specs.Effect.{after}
+use Rattle.ivf_graph.specs.Graph.{Row, IsOfChain, last_block, rows_on, HasRoom, IsAsLong}
 
 -- ---- rows
 
@@ -33,7 +32,7 @@ pub record IsGrowAllowed (g : IvfGraph) (list last block : ℕ) (bits : List Boo
   pub as_long : IsAsLong g bits
 
 -- Rows go at offsets, from 1, that are there and rise, one at least, while the desk holds Vacuum alone.
-pub record IsCutAllowed (acts : List Act) (desk : ℕ) (g : IvfGraph) (block : ℕ) (gone : List ℕ) : Type 0 where
+pub record IsCutAllowed (g : IvfGraph) (acts : List Act) (desk : ℕ) (block : ℕ) (gone : List ℕ) : Type 0 where
   pub alone : HoldsAs acts desk Vacuum Alone
   pub rows : List Row
   pub stands : rows_on g block ≡ Some rows
@@ -47,28 +46,28 @@ pub record IsCutAllowed (acts : List Act) (desk : ℕ) (g : IvfGraph) (block : �
 pub record IsAimAllowed (g : IvfGraph) (list block : ℕ) : Type 0 where
   pub aims : IvfList
   pub is_there : slice_get g.lists list ≡ Some aims
-  pub of_chain : Contains (numbers aims.chain) block
+  pub of_chain : IsOfChain aims.chain block
 
 -- ---- all events
 
--- The desk may make the event after these acts. No event of a graph of nodes is allowed, and no phase of a vacuum.
+-- The desk may make the event after these acts, which led to this index. No event of a graph of nodes is allowed, and no phase of a vacuum.
 abbrev pub IsEventAllowed : IvfGraph → List Act → ℕ → Event → Type 0
-IsEventAllowed base acts desk (event.Put at list_at version level id bits lists) = ⊥
-IsEventAllowed base acts desk (event.Join at version id) = ⊥
-IsEventAllowed base acts desk (event.Link at list_at version slot to) = ⊥
-IsEventAllowed base acts desk (event.Relist at list_at version lists) = ⊥
-IsEventAllowed base acts desk (event.Drop at version gone) = ⊥
-IsEventAllowed base acts desk (event.Mark at list_at version) = ⊥
-IsEventAllowed base acts desk (event.Entry to level) = ⊥
-IsEventAllowed base acts desk (event.Hint block) = ⊥
-IsEventAllowed base acts desk (event.IvfAdd block id bits) = IsAddAllowed (after base acts) block bits
-IsEventAllowed base acts desk (event.IvfGrow list last block id bits) = IsGrowAllowed (after base acts) list last block bits
-IsEventAllowed base acts desk (event.IvfDrop block gone) = IsCutAllowed acts desk (after base acts) block gone
-IsEventAllowed base acts desk (event.IvfHint list block) = IsAimAllowed (after base acts) list block
-IsEventAllowed base acts desk (event.Gate gate hold) = IsGateAllowed acts desk gate hold
-IsEventAllowed base acts desk (event.Ungate gate) = IsUngateAllowed acts desk gate
-IsEventAllowed base acts desk (event.Phase stage) = ⊥
-IsEventAllowed base acts desk event.VacuumEnd = ⊥
-IsEventAllowed base acts desk (event.Cancel stage) = ⊥
-IsEventAllowed base acts desk (event.Settled upto) = IsSettledAllowed acts upto
-IsEventAllowed base acts desk (event.DiskFaulted count) = IsFaultAllowed acts count
+IsEventAllowed g acts desk (event.Put at list_at version level id bits lists) = ⊥
+IsEventAllowed g acts desk (event.Join at version id) = ⊥
+IsEventAllowed g acts desk (event.Link at list_at version slot to) = ⊥
+IsEventAllowed g acts desk (event.Relist at list_at version lists) = ⊥
+IsEventAllowed g acts desk (event.Drop at version gone) = ⊥
+IsEventAllowed g acts desk (event.Mark at list_at version) = ⊥
+IsEventAllowed g acts desk (event.Entry to level) = ⊥
+IsEventAllowed g acts desk (event.Hint block) = ⊥
+IsEventAllowed g acts desk (event.IvfAdd block id bits) = IsAddAllowed g block bits
+IsEventAllowed g acts desk (event.IvfGrow list last block id bits) = IsGrowAllowed g list last block bits
+IsEventAllowed g acts desk (event.IvfDrop block gone) = IsCutAllowed g acts desk block gone
+IsEventAllowed g acts desk (event.IvfHint list block) = IsAimAllowed g list block
+IsEventAllowed g acts desk (event.Gate gate hold) = IsGateAllowed acts desk gate hold
+IsEventAllowed g acts desk (event.Ungate gate) = IsUngateAllowed acts desk gate
+IsEventAllowed g acts desk (event.Phase stage) = ⊥
+IsEventAllowed g acts desk event.VacuumEnd = ⊥
+IsEventAllowed g acts desk (event.Cancel stage) = ⊥
+IsEventAllowed g acts desk (event.Settled upto) = IsSettledAllowed acts upto
+IsEventAllowed g acts desk (event.DiskFaulted count) = IsFaultAllowed acts count

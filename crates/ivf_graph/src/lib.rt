@@ -6,10 +6,16 @@
 //! answers). The laws are functions that do no work.
 #![tactic(auto)]
 
+mod blocks;
+mod changes;
+mod copies;
+mod fault;
 mod graph;
 mod law;
 mod list;
+mod rules;
 
+pub use fault::AuditFault;
 pub use graph::IvfGraph;
 pub use law::{law_alone, law_answer, law_cut, law_examples, law_rows};
 pub use list::IvfList;
