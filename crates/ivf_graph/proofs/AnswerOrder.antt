@@ -1,5 +1,5 @@
 -- The answer is in order.
-use Rattle.std.proofs.Common.{◌≡◌, refl, List, map, true, false}
+use Rattle.std.proofs.Common.{◌≡◌, refl, List, map, false}
 use Rattle.std.specs.declared.cmp.Ordering.{Ordering}
 use Rattle.std.specs.declared.cmp.Ordering.TheVariants.{Less, Equal, Greater}
 use Rattle.std.specs.Ordering.{is_lt, nat_cmp, ordering_then}

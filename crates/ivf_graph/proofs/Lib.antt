@@ -3,3 +3,4 @@ pub mod SameRows
 pub mod AnswerOrder
 pub mod FirstFound
 pub mod FromTheEnd
+pub mod Judging

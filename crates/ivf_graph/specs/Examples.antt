@@ -34,9 +34,9 @@ list_on block centre rows = record { centre = centre; aim = block; chain = (bloc
 abbrev pub worked_index : IvfGraph
 worked_index = record {
   lists =
-    list_on 2 (four false false false false) ((row_1, four false false false false) ∷ [])
-    ∷ list_on 3 (four true true true false) ((row_3, four true true true true) ∷ (row_4, four true true true false) ∷ [])
-    ∷ list_on 4 (four false false false true) ((row_2, four false false false true) ∷ [])
-    ∷ [];
+      list_on 2 (four false false false false) ((row_1, four false false false false) ∷ [])
+      ∷ list_on 3 (four true true true false) ((row_3, four true true true true) ∷ (row_4, four true true true false) ∷ [])
+      ∷ list_on 4 (four false false false true) ((row_2, four false false false true) ∷ [])
+      ∷ [];
   blocks = 5;
 }

@@ -10,10 +10,16 @@ use bit_code::Bits;
 use vec_names::{HeapId, Listed};
 
 /// The rows of a block, if it stands in the chain.
-fn chain_rows(chain: &[(u32, Listed<(HeapId, Bits)>)], block: u32) -> Option<&Listed<(HeapId, Bits)>>
+fn chain_rows(
+    chain: &[(u32, Listed<(HeapId, Bits)>)],
+    block: u32,
+) -> Option<&Listed<(HeapId, Bits)>>
     ensures { option_copied result ≡ option_map (λ p. p.1) (find (λ p. p.0 == block) chain.now) }
 {
-    chain.iter().find(|part| part.0 == block).map(|part| &part.1)
+    chain
+        .iter()
+        .find(|part| part.0 == block)
+        .map(|part| &part.1)
 }
 
 /// The rows of a block, if it stands in a chain.

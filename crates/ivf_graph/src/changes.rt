@@ -6,11 +6,11 @@ ghost use Rattle.vec_names.specs.declared.heap_id.HeapId.{HeapId as HeapIds};
 ghost use Rattle.ivf_graph.specs.Effect.{effect, row_change, changed_part, with_rows, changed, grown, aimed, others};
 ghost use Rattle.std.specs.Prelude.{map};
 
-use crate::fault::AuditFault;
+use crate::copies::copied_bits;
 use crate::graph::IvfGraph;
 use crate::list::IvfList;
 use bit_code::Bits;
-use std::alloc::Global;
+use std::alloc::{AllocError, Global};
 use std::mem;
 use vec_event::Event;
 use vec_names::{HeapId, Listed};
@@ -34,12 +34,12 @@ fn drop_rows(gone: &[u16], rows: &mut Listed<(HeapId, Bits)>)
 }
 
 /// Changes the rows of the event's block.
-fn change_rows(event: &Event, rows: &mut Listed<(HeapId, Bits)>) -> Result<(), AuditFault>
+fn change_rows(event: &Event, rows: &mut Listed<(HeapId, Bits)>) -> Result<(), AllocError>
     ensures { OnOk result (rows.new ≡ row_change event.now rows.old) }
 {
     match event {
         Event::IvfAdd { block: _, id, bits } => {
-            rows.push((*id, bits.try_clone()?))?;
+            rows.push((*id, copied_bits(bits)?))?;
             Ok(())
         }
         Event::IvfDrop { block: _, gone } => {
@@ -50,7 +50,11 @@ fn change_rows(event: &Event, rows: &mut Listed<(HeapId, Bits)>) -> Result<(), A
     }
 }
 
-fn change_part(block: u32, event: &Event, part: &mut (u32, Listed<(HeapId, Bits)>)) -> Result<(), AuditFault>
+fn change_part(
+    block: u32,
+    event: &Event,
+    part: &mut (u32, Listed<(HeapId, Bits)>),
+) -> Result<(), AllocError>
     ensures { OnOk result (part.new ≡ changed_part block (row_change event.now) part.old) }
 {
     if part.0 == block {
@@ -59,7 +63,12 @@ fn change_part(block: u32, event: &Event, part: &mut (u32, Listed<(HeapId, Bits)
     Ok(())
 }
 
-fn change_list(alloc: Global, block: u32, event: &Event, list: &mut IvfList) -> Result<(), AuditFault>
+fn change_list(
+    alloc: Global,
+    block: u32,
+    event: &Event,
+    list: &mut IvfList,
+) -> Result<(), AllocError>
     ensures { OnOk result (list.new ≡ with_rows block (row_change event.now) list.old) }
 {
     let mut chain = mem::replace(&mut list.chain, Listed::new(alloc)).into_vec();
@@ -71,7 +80,12 @@ fn change_list(alloc: Global, block: u32, event: &Event, list: &mut IvfList) -> 
 }
 
 /// Changes the rows of a block.
-fn change_block(alloc: Global, block: u32, event: &Event, lists: &mut Listed<IvfList>) -> Result<(), AuditFault>
+fn change_block(
+    alloc: Global,
+    block: u32,
+    event: &Event,
+    lists: &mut Listed<IvfList>,
+) -> Result<(), AllocError>
     ensures { OnOk result (lists.new ≡ map (with_rows block (row_change event.now)) lists.old) }
 {
     let mut whole = mem::replace(lists, Listed::new(alloc)).into_vec();
@@ -83,7 +97,13 @@ fn change_block(alloc: Global, block: u32, event: &Event, lists: &mut Listed<Ivf
 }
 
 /// A new block ends the list's chain.
-fn grow(alloc: Global, lists: &mut Listed<IvfList>, list: u32, block: u32, row: (HeapId, Bits)) -> Result<(), AuditFault>
+fn grow(
+    alloc: Global,
+    lists: &mut Listed<IvfList>,
+    list: u32,
+    block: u32,
+    row: (HeapId, Bits),
+) -> Result<(), AllocError>
     ensures { OnOk result (lists.new ≡ changed lists.old list (grown block row)) }
 {
     let mut rows = Listed::new(alloc);
@@ -110,15 +130,31 @@ fn aim(alloc: Global, lists: &mut Listed<IvfList>, list: u32, block: u32)
 }
 
 /// Makes of the index what the event makes of it. After want of memory the index is spoilt.
-pub(crate) fn apply(alloc: Global, event: &Event, index: &mut IvfGraph) -> Result<(), AuditFault>
+pub(crate) fn apply(alloc: Global, event: &Event, index: &mut IvfGraph) -> Result<(), AllocError>
     requires { (list last block : ℕ) (id : HeapIds) (bits : List Bool) → event.now ≡ Event.IvfGrow list last block id bits → block < 32768 }
     ensures { OnOk result (index.new ≡ effect event.now index.old) }
 {
     match event {
-        Event::IvfAdd { block, id: _, bits: _ } => change_block(alloc, *block, event, &mut index.lists),
+        Event::IvfAdd {
+            block,
+            id: _,
+            bits: _,
+        } => change_block(alloc, *block, event, &mut index.lists),
         Event::IvfDrop { block, gone: _ } => change_block(alloc, *block, event, &mut index.lists),
-        Event::IvfGrow { list, last: _, block, id, bits } => {
-            grow(alloc, &mut index.lists, *list, *block, (*id, bits.try_clone()?))?;
+        Event::IvfGrow {
+            list,
+            last: _,
+            block,
+            id,
+            bits,
+        } => {
+            grow(
+                alloc,
+                &mut index.lists,
+                *list,
+                *block,
+                (*id, copied_bits(bits)?),
+            )?;
             index.blocks = index.blocks.max(*block + 1);
             Ok(())
         }

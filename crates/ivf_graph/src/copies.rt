@@ -2,24 +2,36 @@
 
 ghost use Rattle.std.specs.Prelude.{◌≡◌, IfOk};
 
-use crate::fault::AuditFault;
 use crate::graph::IvfGraph;
 use crate::list::IvfList;
 use bit_code::Bits;
-use std::alloc::Global;
+use std::alloc::{AllocError, Global};
 use vec_names::{HeapId, Listed};
 
-fn copied_rows(alloc: Global, rows: &[(HeapId, Bits)]) -> Result<Listed<(HeapId, Bits)>, AuditFault>
+/// The same value in memory of its own.
+pub(crate) fn copied_bits(bits: &Bits) -> Result<Bits, AllocError>
+    ensures { IfOk result (λ copy. copy ≡ bits.now) }
+{
+    match bits.try_clone() {
+        Ok(copy) => Ok(copy),
+        Err(_) => Err(AllocError),
+    }
+}
+
+fn copied_rows(alloc: Global, rows: &[(HeapId, Bits)]) -> Result<Listed<(HeapId, Bits)>, AllocError>
     ensures { IfOk result (λ copy. copy ≡ rows.now) }
 {
     let mut copy = Listed::new(alloc);
     for row in rows {
-        copy.push((row.0, row.1.try_clone()?))?;
+        copy.push((row.0, copied_bits(&row.1)?))?;
     }
     Ok(copy)
 }
 
-fn copied_chain(alloc: Global, chain: &[(u32, Listed<(HeapId, Bits)>)]) -> Result<Listed<(u32, Listed<(HeapId, Bits)>)>, AuditFault>
+fn copied_chain(
+    alloc: Global,
+    chain: &[(u32, Listed<(HeapId, Bits)>)],
+) -> Result<Listed<(u32, Listed<(HeapId, Bits)>)>, AllocError>
     ensures { IfOk result (λ copy. copy ≡ chain.now) }
 {
     let mut copy = Listed::new(alloc);
@@ -29,17 +41,17 @@ fn copied_chain(alloc: Global, chain: &[(u32, Listed<(HeapId, Bits)>)]) -> Resul
     Ok(copy)
 }
 
-fn copied_list(alloc: Global, list: &IvfList) -> Result<IvfList, AuditFault>
+fn copied_list(alloc: Global, list: &IvfList) -> Result<IvfList, AllocError>
     ensures { IfOk result (λ copy. copy ≡ list.now) }
 {
     Ok(IvfList {
-        centre: list.centre.try_clone()?,
+        centre: copied_bits(&list.centre)?,
         aim: list.aim,
         chain: copied_chain(alloc, list.chain.as_slice())?,
     })
 }
 
-fn copied_lists(alloc: Global, lists: &[IvfList]) -> Result<Listed<IvfList>, AuditFault>
+fn copied_lists(alloc: Global, lists: &[IvfList]) -> Result<Listed<IvfList>, AllocError>
     ensures { IfOk result (λ copy. copy ≡ lists.now) }
 {
     let mut copy = Listed::new(alloc);
@@ -50,7 +62,7 @@ fn copied_lists(alloc: Global, lists: &[IvfList]) -> Result<Listed<IvfList>, Aud
 }
 
 /// The same index in memory of its own.
-pub(crate) fn copied(alloc: Global, index: &IvfGraph) -> Result<IvfGraph, AuditFault>
+pub(crate) fn copied(alloc: Global, index: &IvfGraph) -> Result<IvfGraph, AllocError>
     ensures { IfOk result (λ copy. copy ≡ index.now) }
 {
     Ok(IvfGraph {

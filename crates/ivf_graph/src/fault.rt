@@ -3,8 +3,7 @@
 ghost use Rattle.std.specs.Prelude.{◌≡◌};
 ghost use Rattle.ivf_graph.specs.declared.fault.AuditFault.TheVariants.{Memory};
 
-use bit_code::BitsFault;
-use std::alloc::{AllocError, AllocFailed};
+use std::alloc::AllocError;
 use thiserror::Error;
 
 /// Why a history was not found legal.
@@ -22,23 +21,6 @@ impl From<AllocError> for AuditFault {
     ghost from_gives = { λ _ e. e ≡ Memory };
 
     fn from(_: AllocError) -> Self {
-        AuditFault::Memory
-    }
-}
-
-impl<T: Drop> From<AllocFailed<T>> for AuditFault {
-    ghost from_gives = { λ _ e. e ≡ Memory };
-
-    fn from(_: AllocFailed<T>) -> Self {
-        AuditFault::Memory
-    }
-}
-
-// A copy of bits fails for want of memory alone.
-impl From<BitsFault> for AuditFault {
-    ghost from_gives = { λ _ e. e ≡ Memory };
-
-    fn from(_: BitsFault) -> Self {
         AuditFault::Memory
     }
 }

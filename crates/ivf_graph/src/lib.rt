@@ -6,6 +6,7 @@
 //! answers). The laws are functions that do no work.
 #![tactic(auto)]
 
+mod audit;
 mod blocks;
 mod changes;
 mod copies;
@@ -15,6 +16,7 @@ mod law;
 mod list;
 mod rules;
 
+pub use audit::audit_ivf;
 pub use fault::AuditFault;
 pub use graph::IvfGraph;
 pub use law::{law_alone, law_answer, law_cut, law_examples, law_rows};

@@ -1,9 +1,9 @@
-use Rattle.std.proofs.Common.{◌≡◌, ◌==◌, List, take, None, ap, sym, ◌∙◌, arith}
+use Rattle.std.proofs.Common.{◌≡◌, ◌==◌, List, take, ap, sym, ◌∙◌, arith}
 use Rattle.std.specs.List.{find, flat_map}
 use Rattle.std.specs.Option.{option_map}
 use Rattle.std.proofs.lemmas.List.{take_all}
 use Rattle.ivf_graph.specs.declared.list.IvfList.{IvfList}
-use Rattle.ivf_graph.specs.Graph.{Part, Row}
+use Rattle.ivf_graph.specs.Graph.{Part}
 use Rattle.ivf_graph.proofs.FirstFound.{found_here, none_more}
 use Rattle.ivf_graph.proofs.blocks.rows_on.Goals as goal
 
