@@ -4,3 +4,4 @@ pub mod AnswerOrder
 pub mod FirstFound
 pub mod FromTheEnd
 pub mod Judging
+pub mod ReadsOfOne

@@ -1,6 +1,6 @@
 -- What a search of the lists answers.
 use Rattle.std.specs.Prelude.{ℕ, ◌+◌, Bool, List, [], ◌∷◌, map, slice_get, take}
-use Rattle.std.specs.List.{flat_map, filter_map, enumerate_from}
+use Rattle.std.specs.List.{flat_map, enumerate_from}
 use Rattle.std.specs.declared.cmp.Ordering.{Ordering}
 use Rattle.std.specs.Ordering.{nat_cmp, ordering_then, is_lt}
 use Rattle.vec_names.specs.declared.heap_id.HeapId.{HeapId}
@@ -24,13 +24,16 @@ near_cmp a b = ordering_then (dist_cmp a.0 b.0) (nat_cmp a.1 b.1)
 abbrev pub nearness : List Bool → (ℕ × IvfList) → Near
 nearness query e = (hamming_of e.1.centre query, e.0)
 
--- all lists, the nearest first, and the lower number first where distances are equal
-abbrev pub by_nearness : IvfGraph → List Bool → List Near
-by_nearness g query = ranked (λ a b. is_lt (near_cmp a b)) (map (nearness query) (enumerate_from 0 g.lists))
+abbrev pub is_nearer : List Bool → (ℕ × IvfList) → (ℕ × IvfList) → Bool
+is_nearer query a b = is_lt (near_cmp (nearness query a) (nearness query b))
+
+-- the lists with their numbers, the nearest first, and of two as near the one of the lower number
+abbrev pub by_nearness : IvfGraph → List Bool → List (ℕ × IvfList)
+by_nearness g query = ranked (is_nearer query) (enumerate_from 0 g.lists)
 
 -- the lists that a search probes, nearest first: all of them where there are fewer
 abbrev pub probed : IvfGraph → List Bool → ℕ → List IvfList
-probed g query probes = filter_map (λ near. slice_get g.lists near.1) (take probes (by_nearness g query))
+probed g query probes = map (λ e. e.1) (take probes (by_nearness g query))
 
 -- ---- the rows read
 

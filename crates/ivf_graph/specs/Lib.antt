@@ -3,4 +3,5 @@ pub mod Effect
 pub mod Rules
 pub mod Legal
 pub mod Answer
+pub mod Reads
 pub mod Examples
