@@ -1,5 +1,5 @@
 -- What `ranked` gives is in order, and has the elements that it was given.
-use Rattle.std.proofs.Common.{◌≡◌, refl, sym, subst, ℕ, zero, suc, ◌+◌, ◌<◌, ◌≤◌, List, [], ◌∷◌, map, length, get_or, arith}
+use Rattle.std.proofs.Common.{◌≡◌, refl, sym, ap, ◌∙◌, subst, ℕ, zero, suc, ◌+◌, ◌<◌, ◌≤◌, List, [], ◌∷◌, map, length, get_or, arith}
 use Rattle.std.specs.Prelude.{Bool, true, false, if◌then◌else◌}
 use Rattle.std.specs.Cmp.{IsStrictWeakOrder}
 use Rattle.std.specs.List.Sorted.{IsPermutation, IsSortedBy}
@@ -51,3 +51,18 @@ ranked_permutes lt [] = IsPermutation-refl []
 ranked_permutes lt (x ∷ xs) =
     IsPermutation-trans (x ∷ xs) (x ∷ ranked lt xs) (placed lt x (ranked lt xs)) (IsPermutation-cons x xs (ranked lt xs) (ranked_permutes lt xs))
     (placed_permutes lt x (ranked lt xs))
+
+-- ---- maps
+
+placed-map : {X Y : Type 0} (f : X → Y) (less : Y → Y → Bool) (x : X) (ys : List X) → placed less (f x) (map f ys) ≡ map f (placed (λ a b. less (f a) (f b)) x ys)
+placed-map f less x [] = refl
+placed-map {X} f less x (y ∷ ys) = by_test (less (f y) (f x)) (placed-map f less x ys)
+  where
+    by_test : (b : Bool) → placed less (f x) (map f ys) ≡ map f (placed (λ a b. less (f a) (f b)) x ys)
+        → (if b then f y ∷ placed less (f x) (map f ys) else f x ∷ f y ∷ map f ys) ≡ map f (if b then y ∷ placed (λ a b. less (f a) (f b)) x ys else x ∷ y ∷ ys)
+    by_test true further = ap (λ l. f y ∷ l) further
+    by_test false further = refl
+
+pub ranked-map : {X Y : Type 0} (f : X → Y) (less : Y → Y → Bool) (xs : List X) → ranked less (map f xs) ≡ map f (ranked (λ a b. less (f a) (f b)) xs)
+ranked-map f less [] = refl
+ranked-map f less (x ∷ xs) = ap (placed less (f x)) (ranked-map f less xs) ∙ placed-map f less x (ranked (λ a b. less (f a) (f b)) xs)

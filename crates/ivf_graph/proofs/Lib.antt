@@ -4,4 +4,5 @@ pub mod AnswerOrder
 pub mod FirstFound
 pub mod FromTheEnd
 pub mod Judging
+pub mod ChainsRead
 pub mod ReadsOfOne

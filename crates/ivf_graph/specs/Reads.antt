@@ -1,19 +1,24 @@
 -- What a search of the lists answers where each of its reads has a position of its own: first the pages of the centres, rising, and then the
 -- blocks of each probed chain, nearest list first.
-use Rattle.std.specs.Prelude.{◌≡◌, ℕ, ◌+◌, ◌-◌, ◌*◌, ◌/◌, ◌≤◌, ◌==◌, Bool, List, [], ◌∷◌, ◌++◌, find, length, map, slice_get, take, drop, Option, Some, None}
-use Rattle.std.specs.List.{flat_map, filter_map, enumerate_from}
+use Rattle.std.specs.Prelude.{◌≡◌, ℕ, ◌+◌, ◌-◌, ◌*◌, ◌/◌, ◌≤◌, ◌==◌, Bool, List, [], ◌∷◌, ◌++◌, nat_eq, find, length, map, slice_get, take, drop, Option, Some, None}
+use Rattle.std.specs.List.{flat_map, filter_map, enumerate_from, IsDistinct}
 use Rattle.std.specs.Option.{option_map, option_and_then}
+use Rattle.std.specs.Int.{div_ceil}
 use Rattle.std.specs.Ordering.{is_lt}
 use Rattle.bit_dist.specs.Distances.{hamming_of}
 use Rattle.bit_dist.specs.Ranking.{ranked}
 use Rattle.vec_event.specs.declared.event.Act.{Act}
 use Rattle.ivf_graph.specs.declared.list.IvfList.{IvfList}
 use Rattle.ivf_graph.specs.declared.graph.IvfGraph.{IvfGraph}
-use Rattle.ivf_graph.specs.Graph.{Row, Part, rows_on, page_room}
+use Rattle.ivf_graph.specs.Graph.{Row, Part, parts, rows_on, page_room}
 use Rattle.ivf_graph.specs.Effect.{state_after}
 use Rattle.ivf_graph.specs.Answer.{near_cmp, Found, found_on, Hit, answer_of}
 
 -- ---- what a read tells
+
+-- each block stands once in the chains
+abbrev pub AreBlocksApart : IvfGraph → Type 0
+AreBlocksApart g = IsDistinct nat_eq (map (λ p. p.0) (parts g))
 
 -- the block that begins a chain
 abbrev pub first_block : List Part → Option ℕ
@@ -24,9 +29,12 @@ abbrev pub links : List Part → List (ℕ × Option ℕ)
 links [] = []
 links (p ∷ chain) = (p.0, first_block chain) ∷ links chain
 
+abbrev pub all_links : IvfGraph → List (ℕ × Option ℕ)
+all_links g = flat_map (λ l. links l.chain) g.lists
+
 -- the block behind a block in its chain, if there is one
 abbrev pub next_on : IvfGraph → ℕ → Option ℕ
-next_on g block = option_and_then (λ e. e.1) (find (λ e. e.0 == block) (flat_map (λ l. links l.chain) g.lists))
+next_on g block = option_and_then (λ e. e.1) (find (λ e. e.0 == block) (all_links g))
 
 -- of a list: its number, its centre, and the block that begins its chain
 pub record Centre : Type 0 where
@@ -53,7 +61,7 @@ centres_a_page places = page_room / centre_need places
 
 -- on how many pages the centres of so many lists stand
 abbrev pub centre_pages : ℕ → ℕ → ℕ
-centre_pages places lists = (lists + centres_a_page places - 1) / centres_a_page places
+centre_pages places lists = div_ceil lists (centres_a_page places)
 
 -- the centres told by a read of each page, rising, each in a state of its own
 abbrev pub centres_read : ℕ → ℕ → List IvfGraph → List Centre

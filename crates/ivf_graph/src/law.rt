@@ -1,15 +1,16 @@
 //! What the definitions of the index of lists and of its histories mean: laws, and no work.
 
-ghost use Rattle.std.specs.Prelude.{◌≡◌, ◌≢◌, ◌⊎◌, ℕ, ◌++◌, ◌∷◌, [], take, slice_get, Some, Bool, true, false, List, map, min, length, IsSorted, IsPermutation};
+ghost use Rattle.std.specs.Prelude.{◌≤◌, replicate, ◌≡◌, ◌≢◌, ◌⊎◌, ℕ, ◌++◌, ◌∷◌, [], take, slice_get, Some, Bool, true, false, List, map, min, length, IsSorted, IsPermutation};
 ghost use Rattle.vec_event.specs.declared.event.Act.{Act};
 ghost use Rattle.vec_event.specs.declared.event.Event.{Event as Events};
 ghost use Rattle.vec_event.specs.declared.gate.Gate.{Gate as Gates};
 ghost use Rattle.vec_event.specs.declared.gate.Hold.{Hold as Holding};
 ghost use Rattle.vec_event.specs.declared.gate.Hold.TheVariants.{Alone};
 ghost use Rattle.vec_history.specs.Gates.{HoldsAs};
-ghost use Rattle.ivf_graph.specs.Answer.{ivf_answer, found, probed, hit_of, hit_cmp};
+ghost use Rattle.ivf_graph.specs.Answer.{Hit, ivf_answer, found, probed, hit_of, hit_cmp};
 ghost use Rattle.ivf_graph.specs.Examples.{four, row_1, row_2, row_3, row_4, unequal_by, worked_index};
 ghost use Rattle.ivf_graph.specs.Graph.{rows, row_need, HasRoom, last_block, rows_on};
+ghost use Rattle.ivf_graph.specs.Reads.{AreBlocksApart, IsAnswerFrom};
 ghost use Rattle.ivf_graph.specs.Effect.{effect, others, AreRowsChanged};
 ghost use Rattle.ivf_graph.specs.Legal.{IsAllowed, IsLegal};
 
@@ -42,6 +43,16 @@ pub fn law_rows(index: &IvfGraph)
 pub fn law_answer(index: &IvfGraph)
     ensures rises { (query : List Bool) (probes : ℕ) → IsSorted hit_cmp (ivf_answer index.now query probes) }
     ensures all { (query : List Bool) (probes : ℕ) → IsPermutation (map hit_of (found index.now query probes)) (ivf_answer index.now query probes) }
+{}
+
+/// A law, and no work. A search whose reads are all of this one state, in which each block stands once in
+/// the chains, answers as the state does; and there is such a search.
+pub fn law_reads(index: &IvfGraph)
+    requires { AreBlocksApart index.now }
+    ensures one { (reads probes : ℕ) (query : List Bool) (answer : List Hit) → length query ≤ 64000
+        → IsAnswerFrom (replicate reads index.now) (length index.now.lists) query probes answer → answer ≡ ivf_answer index.now query probes }
+    ensures some { (probes : ℕ) (query : List Bool) → length query ≤ 64000
+        → (reads : ℕ) × IsAnswerFrom (replicate reads index.now) (length index.now.lists) query probes (ivf_answer index.now query probes) }
 {}
 
 /// A law, and no work. Worked examples of the definitions.

@@ -236,5 +236,6 @@ fn laws_before_any_act(rt: HostRuntime) {
     law_alone(&base, &acts);
     law_rows(&base);
     law_answer(&base);
+    law_reads(&base);
     law_examples();
 }
