@@ -8,3 +8,4 @@ pub mod IdleVacuum
 pub mod Further
 pub mod Remaining
 pub mod Later
+pub mod NodeWords

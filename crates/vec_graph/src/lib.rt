@@ -3,12 +3,14 @@
 //! The definitions stand in specs/: `Graph` (nodes, live and doomed ones, members of layers), `Places`
 //! (where a new node may stand), `Effect` (what an event changes), `Holding` (gates, and what a desk
 //! knows), `Phases` (how far a vacuum is), `Rules` (one word for each kind of event), `Legal` and
-//! `Sound`. The functions here are laws of those definitions, and do no work.
+//! `Sound`. The functions of `law` are laws of those definitions, and do no work; the others decide
+//! their words.
 #![tactic(auto)]
 
 mod graph;
 mod law;
 mod node;
+mod words;
 
 pub use graph::Graph;
 pub use law::{
@@ -16,6 +18,7 @@ pub use law::{
     law_layers, law_levels, law_live, law_places,
 };
 pub use node::Node;
+pub use words::{doomed_at, is_doomed, is_live, live_at};
 
 #[cfg(test)]
 mod tests;

@@ -1,0 +1,42 @@
+-- A worked index: four rows of four places in three lists.
+use Rattle.std.specs.Prelude.{ℕ, Bool, true, false, List, [], ◌∷◌}
+use Rattle.std.proofs.Common.{lit<, lit≤}
+use Rattle.vec_names.specs.declared.heap_id.HeapId.{HeapId}
+use Rattle.bit_dist.specs.declared.dist.Dist.{Dist}
+use Rattle.bit_dist.specs.Distances.{one_positive}
+use Rattle.ivf_graph.specs.declared.list.IvfList.{IvfList}
+use Rattle.ivf_graph.specs.declared.graph.IvfGraph.{IvfGraph}
+
+abbrev pub four : Bool → Bool → Bool → Bool → List Bool
+four a b c d = a ∷ b ∷ c ∷ d ∷ []
+
+-- the rows of the table's block 1, at the offsets 1 to 4
+abbrev pub row_1 : HeapId
+row_1 = record { block = 1; off = 1; within_blocks = lit< tt; counted_from_one = lit≤ tt; in_two_bytes = lit< tt }
+
+abbrev pub row_2 : HeapId
+row_2 = record { block = 1; off = 2; within_blocks = lit< tt; counted_from_one = lit≤ tt; in_two_bytes = lit< tt }
+
+abbrev pub row_3 : HeapId
+row_3 = record { block = 1; off = 3; within_blocks = lit< tt; counted_from_one = lit≤ tt; in_two_bytes = lit< tt }
+
+abbrev pub row_4 : HeapId
+row_4 = record { block = 1; off = 4; within_blocks = lit< tt; counted_from_one = lit≤ tt; in_two_bytes = lit< tt }
+
+-- n unequal places
+abbrev pub unequal_by : ℕ → Dist
+unequal_by n = record { num = n; den = 1; positive = one_positive }
+
+abbrev pub list_on : ℕ → List Bool → List (HeapId × List Bool) → IvfList
+list_on block centre rows = record { centre = centre; aim = block; chain = (block, rows) ∷ [] }
+
+-- the rows 0000, 0001, 1111 and 1110 in lists with the centres 0000, 1110 and 0001, on the blocks 2 to 4
+abbrev pub worked_index : IvfGraph
+worked_index = record {
+  lists =
+      list_on 2 (four false false false false) ((row_1, four false false false false) ∷ [])
+      ∷ list_on 3 (four true true true false) ((row_3, four true true true true) ∷ (row_4, four true true true false) ∷ [])
+      ∷ list_on 4 (four false false false true) ((row_2, four false false false true) ∷ [])
+      ∷ [];
+  blocks = 5;
+}

@@ -1,0 +1,60 @@
+-- The index of lists: chains of blocks, the rows of a block, and the room of a page.
+use Rattle.std.specs.Prelude.{◌≡◌, ℕ, ◌+◌, ◌*◌, ◌-◌, ◌/◌, ◌≤◌, ◌==◌, Bool, List, All, Any, find, length, slice_get, sum_by, Option}
+use Rattle.std.specs.List.{flat_map}
+use Rattle.std.specs.Option.{option_map}
+use Rattle.vec_names.specs.declared.heap_id.HeapId.{HeapId}
+use Rattle.ivf_graph.specs.declared.graph.IvfGraph.{IvfGraph}
+
+-- ---- chains
+
+-- a row of the table with its value
+abbrev pub Row : Type 0
+Row = HeapId × List Bool
+
+-- one block of a chain: its number, and its rows
+abbrev pub Part : Type 0
+Part = ℕ × List Row
+
+-- the blocks of all chains, list by list
+abbrev pub parts : IvfGraph → List Part
+parts g = flat_map (λ l. l.chain) g.lists
+
+-- the block is one of the chain
+abbrev pub IsOfChain : List Part → ℕ → Type 0
+IsOfChain chain block = Any (λ p. p.0 ≡ block) chain
+
+-- the block that ends a chain
+abbrev pub last_block : List Part → Option ℕ
+last_block chain = option_map (λ p. p.0) (slice_get chain (length chain - 1))
+
+-- the rows of a block, if it stands in a chain
+abbrev pub rows_on : IvfGraph → ℕ → Option (List Row)
+rows_on g block = option_map (λ p. p.1) (find (λ p. p.0 == block) (parts g))
+
+-- the rows of all chains. Compared as a bag
+abbrev pub rows : IvfGraph → List Row
+rows g = flat_map (λ p. p.1) (parts g)
+
+-- ---- bytes
+
+-- the bytes of a page for items, each with its item pointer
+abbrev pub page_room : ℕ
+page_room = 8160
+
+-- what the row of a value of so many places takes of a page: 16 bytes and the packed places, rounded up to eights, and an item pointer of four
+abbrev pub row_need : ℕ → ℕ
+row_need places = (16 + (places + 7) / 8 + 7) / 8 * 8 + 4
+
+-- what a block's rows take of its page
+abbrev pub taken : List Row → ℕ
+taken rows = sum_by (λ r. row_need (length r.1)) rows
+
+-- a row with a value of so many places fits beside these
+abbrev pub HasRoom : List Row → ℕ → Type 0
+HasRoom rows places = taken rows + row_need places ≤ page_room
+
+-- ---- values
+
+-- the value has the length of every centre
+abbrev pub IsAsLong : IvfGraph → List Bool → Type 0
+IsAsLong g bits = All (λ l. length l.centre ≡ length bits) g.lists

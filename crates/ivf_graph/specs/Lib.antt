@@ -1,0 +1,7 @@
+pub mod Graph
+pub mod Effect
+pub mod Rules
+pub mod Legal
+pub mod Answer
+pub mod Reads
+pub mod Examples

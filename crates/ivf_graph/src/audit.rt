@@ -1,0 +1,28 @@
+//! The judge of histories.
+
+ghost use Rattle.std.specs.Prelude.{◌≡◌, ℕ, OnOk, Err};
+ghost use Rattle.ivf_graph.specs.Legal.{IsLegal, IsFirstIllegal};
+
+use crate::changes::apply;
+use crate::copies::copied;
+use crate::fault::AuditFault;
+use crate::graph::IvfGraph;
+use crate::rules::is_allowed;
+use std::alloc::Global;
+use vec_event::Act;
+
+/// Judges the acts of an index of lists that begins at this base: whether each was allowed after the acts
+/// before it. `Illegal` names the first that was not. Where memory is wanting nothing is said of the acts.
+pub fn audit_ivf(alloc: Global, base: &IvfGraph, acts: &[Act]) -> Result<(), AuditFault>
+    ensures legal { OnOk result (IsLegal base.now acts.now) }
+    ensures illegal { (at : ℕ) → result ≡ Err (AuditFault.Illegal at) → IsFirstIllegal base.now acts.now at }
+{
+    let mut index = copied(alloc, base)?;
+    for (at, act) in acts.iter().enumerate() {
+        if !is_allowed(&index, &acts[..at], act.desk, &act.event) {
+            return Err(AuditFault::Illegal { at: at as u64 });
+        }
+        apply(alloc, &act.event, &mut index)?;
+    }
+    Ok(())
+}

@@ -1,0 +1,68 @@
+//! What the definitions of the index of lists and of its histories mean: laws, and no work.
+
+ghost use Rattle.std.specs.Prelude.{◌≤◌, replicate, ◌≡◌, ◌≢◌, ◌⊎◌, ℕ, ◌++◌, ◌∷◌, [], take, slice_get, Some, Bool, true, false, List, map, min, length, IsSorted, IsPermutation};
+ghost use Rattle.vec_event.specs.declared.event.Act.{Act};
+ghost use Rattle.vec_event.specs.declared.event.Event.{Event as Events};
+ghost use Rattle.vec_event.specs.declared.gate.Gate.{Gate as Gates};
+ghost use Rattle.vec_event.specs.declared.gate.Hold.{Hold as Holding};
+ghost use Rattle.vec_event.specs.declared.gate.Hold.TheVariants.{Alone};
+ghost use Rattle.vec_history.specs.Gates.{HoldsAs};
+ghost use Rattle.ivf_graph.specs.Answer.{Hit, ivf_answer, found, probed, hit_of, hit_cmp};
+ghost use Rattle.ivf_graph.specs.Examples.{four, row_1, row_2, row_3, row_4, unequal_by, worked_index};
+ghost use Rattle.ivf_graph.specs.Graph.{rows, row_need, HasRoom, last_block, rows_on};
+ghost use Rattle.ivf_graph.specs.Reads.{AreBlocksApart, IsAnswerFrom};
+ghost use Rattle.ivf_graph.specs.Effect.{effect, others, AreRowsChanged};
+ghost use Rattle.ivf_graph.specs.Legal.{IsAllowed, IsLegal};
+
+use crate::graph::IvfGraph;
+use vec_event::Act;
+
+/// A law, and no work. Each act of a legal history is allowed after the acts before it, so what is cut off
+/// anywhere is legal too; and an act that is allowed makes a longer legal history.
+pub fn law_cut(base: &IvfGraph, acts: &[Act])
+    requires { IsLegal base.now acts.now }
+    ensures cut { (n : ℕ) → IsLegal base.now (take n acts.now) }
+    ensures each { (n : ℕ) (a : Act) → slice_get acts.now n ≡ Some a → IsAllowed base.now (take n acts.now) a }
+    ensures one_more { (a : Act) → IsAllowed base.now acts.now a → IsLegal base.now (acts.now ++ a ∷ []) }
+{}
+
+/// A law, and no work. While a desk holds a gate alone, no other desk holds it.
+pub fn law_alone(base: &IvfGraph, acts: &[Act])
+    requires { IsLegal base.now acts.now }
+    ensures { (gate : Gates) (hold : Holding) (desk other : ℕ) → other ≢ desk → HoldsAs acts.now desk gate Alone → HoldsAs acts.now other gate hold → ⊥ }
+{}
+
+/// A law, and no work. An event that adds no row, grows no chain and drops no rows leaves the rows of the
+/// lists as they are.
+pub fn law_rows(index: &IvfGraph)
+    ensures { (e : Events) → AreRowsChanged e ⊎ (rows (effect e index.now) ≡ rows index.now) }
+{}
+
+/// A law, and no work. The answer rises by distance and then by the rows' names; it has each row of the
+/// lists that are probed, as often as it stands there, and no other; and no more lists are probed than asked.
+pub fn law_answer(index: &IvfGraph)
+    ensures rises { (query : List Bool) (probes : ℕ) → IsSorted hit_cmp (ivf_answer index.now query probes) }
+    ensures all { (query : List Bool) (probes : ℕ) → IsPermutation (map hit_of (found index.now query probes)) (ivf_answer index.now query probes) }
+{}
+
+/// A law, and no work. A search whose reads are all of this one state, in which each block stands once in
+/// the chains, answers as the state does; and there is such a search.
+pub fn law_reads(index: &IvfGraph)
+    requires { AreBlocksApart index.now }
+    ensures one { (reads probes : ℕ) (query : List Bool) (answer : List Hit) → length query ≤ 64000
+        → IsAnswerFrom (replicate reads index.now) (length index.now.lists) query probes answer → answer ≡ ivf_answer index.now query probes }
+    ensures some { (probes : ℕ) (query : List Bool) → length query ≤ 64000
+        → (reads : ℕ) × IsAnswerFrom (replicate reads index.now) (length index.now.lists) query probes (ivf_answer index.now query probes) }
+{}
+
+/// A law, and no work. Worked examples of the definitions.
+pub fn law_examples()
+    // Of the centres 0000, 1110 and 0001 the last two are as near to 0111, and the lower number goes first.
+    ensures one_probe { ivf_answer worked_index (four false true true true) 1 ≡ (unequal_by 1, row_3) ∷ (unequal_by 2, row_4) ∷ [] }
+    ensures three_probes { ivf_answer worked_index (four false true true true) 3
+        ≡ (unequal_by 1, row_3) ∷ (unequal_by 2, row_2) ∷ (unequal_by 2, row_4) ∷ (unequal_by 3, row_1) ∷ [] }
+
+    // A row of 64,000 places takes 8,020 of a page's 8,160 bytes, so one page has one of them.
+    ensures long_row { row_need 64000 ≡ 8020 }
+    ensures short_row { row_need 4 ≡ 28 }
+{}

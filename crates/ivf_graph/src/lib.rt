@@ -1,0 +1,26 @@
+//! The state of an IVFFlat index, an index of lists: what each event makes of it, which acts a history of it
+//! allows, and what it answers.
+//!
+//! The definitions stand in specs/: `Graph` (chains of blocks, the rows of a block, the room of a page), `Effect`
+//! (what an event changes), `Rules` (one word for each kind of event), `Legal`, and `Answer` (what a search
+//! answers). The laws are functions that do no work.
+#![tactic(auto)]
+
+mod audit;
+mod blocks;
+mod changes;
+mod copies;
+mod fault;
+mod graph;
+mod law;
+mod list;
+mod rules;
+
+pub use audit::audit_ivf;
+pub use fault::AuditFault;
+pub use graph::IvfGraph;
+pub use law::{law_alone, law_answer, law_cut, law_examples, law_reads, law_rows};
+pub use list::IvfList;
+
+#[cfg(test)]
+mod tests;
