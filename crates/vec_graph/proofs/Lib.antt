@@ -9,3 +9,4 @@ pub mod Further
 pub mod Remaining
 pub mod Later
 pub mod NodeWords
+pub mod Asked

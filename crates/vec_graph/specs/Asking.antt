@@ -1,19 +1,22 @@
 -- What the rules ask of a desk's next event, other than what a step answers by a word: whether another desk's hold stands in the way, whether a node
 -- is as it was read and how many ids it has, whether there is room. What is asked holds on while other desks act.
-use Rattle.std.specs.Prelude.{◌≡◌, ℕ, ◌<◌, ◌≤◌, List, Bool, length, Option, Some, None}
+use Rattle.std.specs.Prelude.{◌≡◌, ◌≢◌, ℕ, ◌<◌, ◌≤◌, ⊤, List, Bool, length, Option, Some, None}
 use Rattle.vec_names.specs.declared.tid.Tid.{Tid}
 use Rattle.vec_event.specs.declared.event.Event.{Event}
 use Rattle.vec_event.specs.declared.event.Event.TheVariants as event
 use Rattle.vec_event.specs.declared.event.Act.{Act}
+use Rattle.vec_event.specs.declared.gate.Gate.{Gate}
 use Rattle.vec_event.specs.declared.gate.Gate.TheVariants.{Update}
-use Rattle.vec_history.specs.Gates.{Holds}
+use Rattle.vec_event.specs.declared.gate.Hold.{Hold}
+use Rattle.vec_event.specs.declared.gate.Hold.TheVariants.{Shared}
+use Rattle.vec_history.specs.Gates.{Holds, HoldsAs}
 use Rattle.vec_history.specs.Phases.{IsUngateAllowed}
 use Rattle.vec_graph.specs.declared.node.Node.{Node}
 use Rattle.vec_graph.specs.declared.graph.Graph.{Graph}
 use Rattle.vec_graph.specs.Graph.{node_at, slots_of_level, slot_layer, IsMember}
 use Rattle.vec_graph.specs.Effect.{after}
 use Rattle.vec_graph.specs.Knowing.{Knows}
-use Rattle.vec_graph.specs.Rules.{most_level, IsPhaseAllowed, IsVacuumEndAllowed, IsCancelAllowed, IsDropAllowed, IsMarkAllowed, IsEntryAllowed, IsHintAllowed}
+use Rattle.vec_graph.specs.Rules.{most_level, IsThere, IsPlaced, IsPhaseAllowed, IsVacuumEndAllowed, IsCancelAllowed, IsDropAllowed, IsMarkAllowed, IsEntryAllowed, IsHintAllowed}
 
 -- a node stands at the place, deleted or not, of this level and with its list there: as a look told it once
 pub record StandsSo (g : Graph) (at list_at : Tid) (level : ℕ) : Type 0 where
@@ -68,3 +71,37 @@ IsAsked base acts desk (event.IvfAdd block id bits) = ⊥
 IsAsked base acts desk (event.IvfGrow list last block id bits) = ⊥
 IsAsked base acts desk (event.IvfDrop block gone) = ⊥
 IsAsked base acts desk (event.IvfHint list block) = ⊥
+
+-- ---- what the words of a step say
+
+-- a node stands at the place as it was read: of this version, and not deleted
+pub record IsFresh (g : Graph) (at : Tid) (version : ℕ) : Type 0 where
+  pub node : Node
+  pub there : IsThere g at version node
+
+-- and it has an id, and room for one more
+pub record TakesAnId (g : Graph) (at : Tid) (version : ℕ) : Type 0 where
+  pub node : Node
+  pub there : IsThere g at version node
+  pub some : 1 ≤ length node.ids
+  pub room : length node.ids ≤ 9
+
+-- no other desk's hold of the gate stands in the way of this one
+abbrev pub IsGateFree : List Act → ℕ → Gate → Hold → Type 0
+IsGateFree acts desk gate hold = (other : ℕ) (theirs : Hold) → other ≢ desk → HoldsAs acts other gate theirs → (hold ≡ Shared) × (theirs ≡ Shared)
+
+-- what a step does besides answers that it was not done
+abbrev pub IsGranted : Graph → List Act → ℕ → Event → Type 0
+IsGranted base acts desk (event.Put at list_at version level id bits lists) =
+    IsPlaced (after base acts) at level (record { at = at; list_at = list_at; version = version })
+IsGranted base acts desk (event.Join at version id) = TakesAnId (after base acts) at version
+IsGranted base acts desk (event.Link at list_at version slot to) = IsFresh (after base acts) at version
+IsGranted base acts desk (event.Relist at list_at version lists) = IsFresh (after base acts) at version
+IsGranted base acts desk (event.Gate gate hold) = IsGateFree acts desk gate hold
+IsGranted base acts desk _ = ⊤
+
+-- settling and faults go by the acts of all desks
+abbrev pub IsOfAll : Event → Type 0
+IsOfAll (event.Settled upto) = ⊤
+IsOfAll (event.DiskFaulted count) = ⊤
+IsOfAll _ = ⊥

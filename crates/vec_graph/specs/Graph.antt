@@ -1,5 +1,5 @@
 -- The index graph: its nodes, which of them are live or doomed, and the members of their layers.
-use Rattle.std.specs.Prelude.{◌≡◌, ℕ, ◌+◌, ◌*◌, ◌-◌, ◌/◌, ◌≤◌, ◌≢◌, ◌==◌, if◌then◌else◌, Bool, false, List, [], take, drop, map, slice_get, flat_map, Option, Some}
+use Rattle.std.specs.Prelude.{◌≡◌, ℕ, ◌+◌, ◌*◌, ◌-◌, ◌/◌, ◌≤◌, ◌≢◌, ◌==◌, if◌then◌else◌, Bool, false, List, [], take, drop, length, map, slice_get, flat_map, Option, Some}
 use Rattle.std.specs.FinMap.{get, values}
 use Rattle.vec_names.specs.declared.tid.Tid.{Tid}
 use Rattle.vec_names.specs.declared.heap_id.HeapId.{HeapId}
@@ -50,6 +50,10 @@ pub record HasLevel (g : Graph) (at : Tid) (level : ℕ) : Type 0 where
 -- how many slots a node of this level has: m in each layer above the lowest, and 2m in that
 abbrev pub slots_of_level : ℕ → ℕ → ℕ
 slots_of_level m level = (level + 2) * m
+
+-- each node has the slots of its level
+abbrev pub HasAllSlots : Graph → Type 0
+HasAllSlots g = (at : Tid) (n : Node) → node_at g at ≡ Some n → length n.slots ≡ slots_of_level g.params.m n.level
 
 -- the layer of the slot of this number, counted from 0: the highest layer comes first, and the lowest has what is left
 abbrev pub slot_layer : ℕ → ℕ → ℕ → ℕ

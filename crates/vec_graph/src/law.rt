@@ -4,18 +4,18 @@ ghost use Rattle.std.specs.Prelude.{◌≡◌, ◌≢◌, ◌⊎◌, ℕ, ◌++�
 ghost use Rattle.vec_names.specs.declared.tid.Tid.{Tid as Tids};
 ghost use Rattle.vec_event.specs.declared.event.Act.{Act};
 ghost use Rattle.vec_event.specs.declared.event.Event.{Event as Events};
-ghost use Rattle.vec_graph.specs.Asking.{IsAsked};
+ghost use Rattle.vec_graph.specs.Asking.{IsAsked, IsGranted, IsOfAll};
 ghost use Rattle.vec_event.specs.declared.gate.Gate.{Gate as Gates};
 ghost use Rattle.vec_event.specs.declared.gate.Hold.{Hold as Holding};
 ghost use Rattle.vec_event.specs.declared.gate.Hold.TheVariants.{Alone};
 ghost use Rattle.vec_names.specs.declared.heap_id.HeapId.{HeapId as HeapIds};
 ghost use Rattle.vec_graph.specs.declared.graph.Graph.{Graph as Graphs};
 ghost use Rattle.vec_graph.specs.declared.node.Node.{Node};
-ghost use Rattle.vec_graph.specs.Graph.{IsLive, IsDoomed, HasLevel, IsMember, layer_slots, slot_layer, entries};
+ghost use Rattle.vec_graph.specs.Graph.{HasAllSlots, IsLive, IsDoomed, HasLevel, IsMember, layer_slots, slot_layer, entries};
 ghost use Rattle.vec_graph.specs.Effect.{effect, after, state_after, kept, next_version, AreIdsChanged};
 ghost use Rattle.vec_history.specs.Gates.{HoldsAs};
 ghost use Rattle.vec_graph.specs.Places.{new_place, element_need, list_need, fits_one_page, IsOnBlocks, IsFree};
-ghost use Rattle.vec_graph.specs.Rules.{IsPutAllowed, most_level};
+ghost use Rattle.vec_graph.specs.Rules.{IsPutAllowed, IsEventAllowed, most_level};
 ghost use Rattle.vec_graph.specs.Legal.{IsAllowed, IsLegal};
 ghost use Rattle.vec_graph.specs.Examples.{first_insert, idle_vacuum};
 ghost use Rattle.std.specs.FinMap as map;
@@ -122,4 +122,12 @@ pub fn law_later(base: &Graph, acts: &[Act])
     requires on_blocks { IsOnBlocks base.now }
     ensures { (n desk : ℕ) (e : Events) → ((k : ℕ) (a : Act) → n ≤ k → slice_get acts.now k ≡ Some a → a.desk ≢ desk)
         → IsAsked base.now (take n acts.now) desk e → IsAsked base.now acts.now desk e }
+{}
+
+/// A law, and no work. Where each node has the slots of its level, an event that the rules allow meets what they ask so; and one that
+/// meets it and is granted what a step's words say is allowed. Settling and faults are not spoken of.
+pub fn law_asked(base: &Graph, acts: &[Act])
+    requires { HasAllSlots (after base.now acts.now) }
+    ensures asked { (desk : ℕ) (e : Events) → (IsOfAll e → ⊥) → IsEventAllowed base.now acts.now desk e → IsAsked base.now acts.now desk e }
+    ensures allowed { (desk : ℕ) (e : Events) → IsAsked base.now acts.now desk e → IsGranted base.now acts.now desk e → IsEventAllowed base.now acts.now desk e }
 {}

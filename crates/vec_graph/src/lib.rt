@@ -14,8 +14,8 @@ mod words;
 
 pub use graph::Graph;
 pub use law::{
-    law_alone, law_cut, law_entries, law_examples, law_first_insert, law_idle_vacuum, law_later,
-    law_layers, law_levels, law_live, law_places,
+    law_alone, law_asked, law_cut, law_entries, law_examples, law_first_insert, law_idle_vacuum,
+    law_later, law_layers, law_levels, law_live, law_places,
 };
 pub use node::Node;
 pub use words::{doomed_at, is_doomed, is_live, live_at};
