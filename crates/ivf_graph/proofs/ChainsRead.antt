@@ -7,9 +7,9 @@ use Rattle.std.proofs.lemmas.List.{map-append}
 use Rattle.std.proofs.lemmas.Map.Keys.{IsDistinct-head, IsDistinct-tail}
 use Rattle.ivf_graph.specs.declared.list.IvfList.{IvfList}
 use Rattle.ivf_graph.specs.declared.graph.IvfGraph.{IvfGraph}
-use Rattle.ivf_graph.specs.Graph.{Row, Part, parts, rows_on}
+use Rattle.ivf_graph.specs.Graph.{Row, Part, parts, rows_on, AreBlocksApart}
 use Rattle.ivf_graph.specs.Answer.{Found, found_on}
-use Rattle.ivf_graph.specs.Reads.{AreBlocksApart, first_block, links, all_links, next_on, Walks}
+use Rattle.ivf_graph.specs.Reads.{first_block, links, all_links, next_on, Walks}
 use Rattle.ivf_graph.specs.Reads.Walks.{done, begins, reads}
 
 -- ---- what reads tell where each block stands once

@@ -6,3 +6,5 @@ pub mod FromTheEnd
 pub mod Judging
 pub mod ChainsRead
 pub mod ReadsOfOne
+pub mod AllRows
+pub mod OwnBlocks

@@ -12,9 +12,9 @@ use Rattle.bit_dist.specs.Ranking.{placed, ranked}
 use Rattle.bit_dist.proofs.RankedOrder.{ranked-map}
 use Rattle.ivf_graph.specs.declared.list.IvfList.{IvfList}
 use Rattle.ivf_graph.specs.declared.graph.IvfGraph.{IvfGraph}
-use Rattle.ivf_graph.specs.Graph.{Row, Part, rows_on, page_room}
+use Rattle.ivf_graph.specs.Graph.{Row, Part, rows_on, page_room, AreBlocksApart}
 use Rattle.ivf_graph.specs.Answer.{Found, Hit, found_on, found, probed, is_nearer, by_nearness, answer_of, ivf_answer}
-use Rattle.ivf_graph.specs.Reads.{AreBlocksApart, first_block, next_on, Centre, centre_of, centres_on, centre_need, centres_a_page, centre_pages, centres_read, is_centre_nearer, firsts, Walks, IsAnswerFrom}
+use Rattle.ivf_graph.specs.Reads.{first_block, next_on, Centre, centre_of, centres_on, centre_need, centres_a_page, centre_pages, centres_read, is_centre_nearer, firsts, Walks, IsAnswerFrom}
 use Rattle.ivf_graph.proofs.ChainsRead.{Told, AreTold, all_told, walked, some_walk}
 
 -- ---- the pages of the centres

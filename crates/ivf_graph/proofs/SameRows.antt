@@ -16,7 +16,7 @@ changed_below l lists n change (Some x) = refl
 chains : List IvfList → List Part
 chains lists = flat_map (λ l. l.chain) lists
 
-same_chains : (lists : List IvfList) (n block : ℕ) → flat_map (λ l. l.chain) (changed lists n (aimed block)) ≡ flat_map (λ l. l.chain) lists
+pub same_chains : (lists : List IvfList) (n block : ℕ) → flat_map (λ l. l.chain) (changed lists n (aimed block)) ≡ flat_map (λ l. l.chain) lists
 same_chains [] n block = refl
 same_chains (l ∷ lists) zero block = refl
 same_chains (l ∷ lists) (suc n) block =

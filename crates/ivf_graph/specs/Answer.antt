@@ -71,6 +71,9 @@ Hit = Dist × HeapId
 abbrev pub hit_of : Found → Hit
 hit_of f = (f.distance, f.id)
 
+abbrev pub hit_of_row : List Bool → Row → Hit
+hit_of_row query r = (hamming_of r.1 query, r.0)
+
 -- by distance, then by name
 abbrev pub hit_cmp : Hit → Hit → Ordering
 hit_cmp a b = ordering_then (dist_cmp a.0 b.0) (heap_id_cmp a.1 b.1)

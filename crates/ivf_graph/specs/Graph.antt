@@ -1,6 +1,6 @@
 -- The index of lists: chains of blocks, the rows of a block, and the room of a page.
-use Rattle.std.specs.Prelude.{◌≡◌, ℕ, ◌+◌, ◌*◌, ◌-◌, ◌/◌, ◌≤◌, ◌==◌, Bool, List, All, Any, find, length, slice_get, sum_by, Option}
-use Rattle.std.specs.List.{flat_map}
+use Rattle.std.specs.Prelude.{◌<◌, nat_eq, map, ◌≡◌, ℕ, ◌+◌, ◌*◌, ◌-◌, ◌/◌, ◌≤◌, ◌==◌, Bool, List, All, Any, find, length, slice_get, sum_by, Option}
+use Rattle.std.specs.List.{flat_map, IsDistinct}
 use Rattle.std.specs.Option.{option_map}
 use Rattle.vec_names.specs.declared.heap_id.HeapId.{HeapId}
 use Rattle.ivf_graph.specs.declared.graph.IvfGraph.{IvfGraph}
@@ -34,6 +34,19 @@ rows_on g block = option_map (λ p. p.1) (find (λ p. p.0 == block) (parts g))
 -- the rows of all chains. Compared as a bag
 abbrev pub rows : IvfGraph → List Row
 rows g = flat_map (λ p. p.1) (parts g)
+
+-- the numbers of the blocks of all chains
+abbrev pub block_numbers : IvfGraph → List ℕ
+block_numbers g = map (λ p. p.0) (parts g)
+
+-- each block stands once in the chains
+abbrev pub AreBlocksApart : IvfGraph → Type 0
+AreBlocksApart g = IsDistinct nat_eq (block_numbers g)
+
+-- each block of a chain is one of the index's, and stands once
+pub record AreBlocksOwn (g : IvfGraph) : Type 0 where
+  pub apart : AreBlocksApart g
+  pub within : All (λ b. b < g.blocks) (block_numbers g)
 
 -- ---- bytes
 

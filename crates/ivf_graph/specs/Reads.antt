@@ -1,7 +1,7 @@
 -- What a search of the lists answers where each of its reads has a position of its own: first the pages of the centres, rising, and then the
 -- blocks of each probed chain, nearest list first.
-use Rattle.std.specs.Prelude.{◌≡◌, ℕ, ◌+◌, ◌-◌, ◌*◌, ◌/◌, ◌≤◌, ◌==◌, Bool, List, [], ◌∷◌, ◌++◌, nat_eq, find, length, map, slice_get, take, drop, Option, Some, None}
-use Rattle.std.specs.List.{flat_map, filter_map, enumerate_from, IsDistinct}
+use Rattle.std.specs.Prelude.{◌≡◌, ℕ, ◌+◌, ◌-◌, ◌*◌, ◌/◌, ◌≤◌, ◌==◌, Bool, List, [], ◌∷◌, ◌++◌, find, length, map, slice_get, take, drop, Option, Some, None}
+use Rattle.std.specs.List.{flat_map, filter_map, enumerate_from}
 use Rattle.std.specs.Option.{option_map, option_and_then}
 use Rattle.std.specs.Int.{div_ceil}
 use Rattle.std.specs.Ordering.{is_lt}
@@ -10,15 +10,11 @@ use Rattle.bit_dist.specs.Ranking.{ranked}
 use Rattle.vec_event.specs.declared.event.Act.{Act}
 use Rattle.ivf_graph.specs.declared.list.IvfList.{IvfList}
 use Rattle.ivf_graph.specs.declared.graph.IvfGraph.{IvfGraph}
-use Rattle.ivf_graph.specs.Graph.{Row, Part, parts, rows_on, page_room}
+use Rattle.ivf_graph.specs.Graph.{Row, Part, rows_on, page_room}
 use Rattle.ivf_graph.specs.Effect.{state_after}
 use Rattle.ivf_graph.specs.Answer.{near_cmp, Found, found_on, Hit, answer_of}
 
 -- ---- what a read tells
-
--- each block stands once in the chains
-abbrev pub AreBlocksApart : IvfGraph → Type 0
-AreBlocksApart g = IsDistinct nat_eq (map (λ p. p.0) (parts g))
 
 -- the block that begins a chain
 abbrev pub first_block : List Part → Option ℕ

@@ -7,11 +7,11 @@ ghost use Rattle.vec_event.specs.declared.gate.Gate.{Gate as Gates};
 ghost use Rattle.vec_event.specs.declared.gate.Hold.{Hold as Holding};
 ghost use Rattle.vec_event.specs.declared.gate.Hold.TheVariants.{Alone};
 ghost use Rattle.vec_history.specs.Gates.{HoldsAs};
-ghost use Rattle.ivf_graph.specs.Answer.{Hit, ivf_answer, found, probed, hit_of, hit_cmp};
+ghost use Rattle.ivf_graph.specs.Answer.{Hit, ivf_answer, found, probed, hit_of, hit_of_row, hit_cmp};
 ghost use Rattle.ivf_graph.specs.Examples.{four, row_1, row_2, row_3, row_4, unequal_by, worked_index};
-ghost use Rattle.ivf_graph.specs.Graph.{rows, row_need, HasRoom, last_block, rows_on};
-ghost use Rattle.ivf_graph.specs.Reads.{AreBlocksApart, IsAnswerFrom};
-ghost use Rattle.ivf_graph.specs.Effect.{effect, others, AreRowsChanged};
+ghost use Rattle.ivf_graph.specs.Graph.{rows, row_need, AreBlocksApart, AreBlocksOwn};
+ghost use Rattle.ivf_graph.specs.Reads.{IsAnswerFrom};
+ghost use Rattle.ivf_graph.specs.Effect.{effect, after, AreRowsChanged};
 ghost use Rattle.ivf_graph.specs.Legal.{IsAllowed, IsLegal};
 
 use crate::graph::IvfGraph;
@@ -38,11 +38,23 @@ pub fn law_rows(index: &IvfGraph)
     ensures { (e : Events) → AreRowsChanged e ⊎ (rows (effect e index.now) ≡ rows index.now) }
 {}
 
+/// A law, and no work. Each block of a chain stays one of the index's, and stands once in the chains: where
+/// it is so at the base, it is so after a legal history.
+pub fn law_blocks(base: &IvfGraph, acts: &[Act])
+    requires legal { IsLegal base.now acts.now }
+    requires own { AreBlocksOwn base.now }
+    ensures { AreBlocksOwn (after base.now acts.now) }
+{}
+
 /// A law, and no work. The answer rises by distance and then by the rows' names; it has each row of the
-/// lists that are probed, as often as it stands there, and no other; and no more lists are probed than asked.
+/// lists that are probed, as often as it stands there, and no other. As many lists are probed as asked, or all
+/// where there are fewer, and then the answer has all rows.
 pub fn law_answer(index: &IvfGraph)
     ensures rises { (query : List Bool) (probes : ℕ) → IsSorted hit_cmp (ivf_answer index.now query probes) }
     ensures all { (query : List Bool) (probes : ℕ) → IsPermutation (map hit_of (found index.now query probes)) (ivf_answer index.now query probes) }
+    ensures few { (query : List Bool) (probes : ℕ) → length (probed index.now query probes) ≡ min probes (length index.now.lists) }
+    ensures whole { (query : List Bool) (probes : ℕ) → length index.now.lists ≤ probes
+        → IsPermutation (map (hit_of_row query) (rows index.now)) (ivf_answer index.now query probes) }
 {}
 
 /// A law, and no work. A search whose reads are all of this one state, in which each block stands once in

@@ -19,7 +19,7 @@ mod rules;
 pub use audit::audit_ivf;
 pub use fault::AuditFault;
 pub use graph::IvfGraph;
-pub use law::{law_alone, law_answer, law_cut, law_examples, law_reads, law_rows};
+pub use law::{law_alone, law_answer, law_blocks, law_cut, law_examples, law_reads, law_rows};
 pub use list::IvfList;
 
 #[cfg(test)]
