@@ -5,3 +5,4 @@ pub mod Levels
 pub mod Layers
 pub mod FirstInsert
 pub mod IdleVacuum
+pub mod Copies
