@@ -6,3 +6,4 @@ pub mod Layers
 pub mod FirstInsert
 pub mod IdleVacuum
 pub mod Copies
+pub mod Lent

@@ -6,6 +6,7 @@
 //! `Sound`. The functions here are laws of those definitions, and do no work.
 #![tactic(auto)]
 
+mod changes;
 mod graph;
 mod law;
 mod node;
