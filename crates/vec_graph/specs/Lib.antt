@@ -1,5 +1,6 @@
 pub mod Graph
 pub mod Places
+pub mod Spots
 pub mod Effect
 pub mod Knowing
 pub mod Cleaning

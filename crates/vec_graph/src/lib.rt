@@ -10,6 +10,7 @@ mod changes;
 mod graph;
 mod law;
 mod node;
+mod places;
 
 pub use graph::Graph;
 pub use law::{
@@ -17,6 +18,7 @@ pub use law::{
     law_levels, law_live, law_places,
 };
 pub use node::Node;
+pub use places::Place;
 
 #[cfg(test)]
 mod tests;
