@@ -7,3 +7,4 @@ pub mod FirstInsert
 pub mod IdleVacuum
 pub mod Copies
 pub mod Lent
+pub mod NodeWords

@@ -3,7 +3,8 @@
 //! The definitions stand in specs/: `Graph` (nodes, live and doomed ones, members of layers), `Places`
 //! (where a new node may stand), `Effect` (what an event changes), `Holding` (gates, and what a desk
 //! knows), `Phases` (how far a vacuum is), `Rules` (one word for each kind of event), `Legal` and
-//! `Sound`. The functions here are laws of those definitions, and do no work.
+//! `Sound`. The functions of `law` are laws of those definitions, and do no work; the others decide
+//! their words.
 #![tactic(auto)]
 
 mod changes;
@@ -11,6 +12,7 @@ mod graph;
 mod law;
 mod node;
 mod places;
+mod words;
 
 pub use graph::Graph;
 pub use law::{
@@ -19,6 +21,7 @@ pub use law::{
 };
 pub use node::Node;
 pub use places::Place;
+pub use words::{doomed_at, is_doomed, is_live, live_at};
 
 #[cfg(test)]
 mod tests;
