@@ -8,3 +8,5 @@ pub mod IdleVacuum
 pub mod Copies
 pub mod Lent
 pub mod NodeWords
+pub mod AllowedNodes
+pub mod SamePlaces

@@ -11,6 +11,7 @@ mod changes;
 mod graph;
 mod law;
 mod node;
+mod node_rules;
 mod places;
 mod words;
 
