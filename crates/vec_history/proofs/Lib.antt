@@ -1,3 +1,6 @@
 pub mod Parts
 pub mod OneAtATime
 pub mod Alone
+pub mod Scans
+pub mod GateHolds
+pub mod Removing

@@ -2,3 +2,4 @@ pub mod Acts
 pub mod Gates
 pub mod Phases
 pub mod Settling
+pub mod Deciding

@@ -3,12 +3,20 @@
 //!
 //! The definitions stand in specs/: `Acts` (acts by their numbers), `Gates` (holds, and when a gate may be
 //! taken), `Phases` (the phase of a vacuum, its barriers, and when it may go on), `Settling` (what is settled, and
-//! the faults of the disks). The functions here are laws of those definitions, and do no work.
+//! the faults of the disks); `Deciding` has words of the functions' parts only. The functions decide the words
+//! of those definitions by going over the acts, and take no memory; those of `law` are laws of the definitions,
+//! and do no work.
 #![tactic(auto)]
 
+mod gates;
 mod law;
+mod phases;
+mod settling;
 
+pub use gates::{held, may_take};
 pub use law::{law_alone, law_one_at_a_time};
+pub use phases::{is_in_phase, last_barrier, may_begin_remove, may_give_back, phase, removed};
+pub use settling::{count_lasting, is_lasting, may_fault, may_settle};
 
 #[cfg(test)]
 mod tests;
