@@ -10,7 +10,7 @@ use Rattle.vec_history.specs.Phases.{IsInPhase}
 use Rattle.vec_graph.specs.declared.node.Node.{Node}
 use Rattle.vec_graph.specs.declared.graph.Graph.{Graph}
 use Rattle.vec_graph.specs.Effect.{after}
-use Rattle.vec_graph.specs.Graph.{IsDoomed}
+use Rattle.vec_graph.specs.Graph.{node_at, IsDoomed, HasLevel}
 use Rattle.vec_graph.specs.Rules.{IsThere, IsJoinAllowed, IsDropAllowed, IsMarkAllowed}
 
 -- one node at most is there
@@ -41,3 +41,9 @@ module _ (base : Graph) (acts : List Act) (g : Graph) (state : g ≡ after base 
     λ h. record { phase = phase; node = n; there = here at version n there; listed = h.0; doomed = h.1 },
     λ may. subst (λ (m : Node). (m.list_at ≡ list_at) × IsDoomed m) (same_there _ at version may.node n may.there (here at version n there)) (may.listed, may.doomed),
   )
+
+pub level_by : (g : Graph) (at : Tid) (level : ℕ) (n : Node) → node_at g at ≡ Some n → (n.level ≡ level) ↔ HasLevel g at level
+level_by g at level n stands = (
+  λ of_level. record { node = n; stands = stands; of_level = of_level },
+  λ has. subst (λ (m : Node). m.level ≡ level) (same_Some _ _ (sym has.stands ∙ stands)) has.of_level,
+)

@@ -8,3 +8,5 @@ pub mod Rules
 pub mod Legal
 pub mod Sound
 pub mod Examples
+pub mod Judging
+pub mod Deciding

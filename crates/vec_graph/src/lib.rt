@@ -8,6 +8,7 @@
 #![tactic(auto)]
 
 mod changes;
+mod fault;
 mod graph;
 mod law;
 mod node;
@@ -15,6 +16,7 @@ mod node_rules;
 mod places;
 mod words;
 
+pub use fault::AuditFault;
 pub use graph::Graph;
 pub use law::{
     law_alone, law_cut, law_entries, law_examples, law_first_insert, law_idle_vacuum, law_layers,

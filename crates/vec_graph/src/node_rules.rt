@@ -5,17 +5,20 @@ ghost use Rattle.std.specs.Option.{option_map};
 ghost use Rattle.vec_event.specs.declared.gate.Gate.TheVariants.{Update};
 ghost use Rattle.vec_history.specs.Gates.{Holds};
 ghost use Rattle.vec_graph.specs.declared.node.Node.{Node as Nodes};
+ghost use Rattle.vec_graph.specs.Graph.{HasLevel, slot_layer, slots_of_level};
 ghost use Rattle.vec_graph.specs.Effect.{after};
+ghost use Rattle.vec_graph.specs.Deciding.{IsFitting};
 ghost use Rattle.vec_graph.specs.Spots.{spot_of};
 ghost use Rattle.vec_graph.specs.Rules.{IsThere, IsPlaced, most_level, IsPutAllowed, IsJoinAllowed, IsLinkAllowed, IsRelistAllowed, IsDropAllowed, IsMarkAllowed, IsEntryAtAllowed, IsNoEntryAllowed, IsEntryAllowed, IsHintAllowed};
 
 use crate::graph::Graph;
 use crate::node::Node;
-use crate::places::Place;
+use crate::places::{Place, slots_of_level};
 use crate::words::is_doomed;
+use bit_code::Bits;
 use vec_event::{Act, Gate, Stage};
 use vec_history::{held, is_in_phase};
-use vec_names::Tid;
+use vec_names::{Listed, Tid};
 
 pub(crate) fn holds(acts: &[Act], desk: u32, gate: Gate) -> bool
     ensures { IsTrue result ↔ Holds acts.now desk gate }
@@ -163,4 +166,38 @@ fn most_level(m: u16) -> u16
 {
     let fitting = if m == 0 { 0 } else { 1358 / m };
     fitting.saturating_sub(2).min(255)
+}
+
+// Whether a new node of this level fits the graph at this place.
+fn fits(graph: &Graph, place: Place, level: u8, bits: &Bits, lists: &Listed<Option<Tid>>) -> bool
+    ensures { IsTrue result ↔ IsFitting graph.now (spot_of place) level bits.now lists.now }
+{
+    bits.count() == graph.params.bits
+        && has_slots_of(graph, level, lists)
+        && u16::from(level) <= most_level(graph.params.m)
+        && is_placed(graph, place, level)
+}
+
+fn has_slots_of(graph: &Graph, level: u8, lists: &Listed<Option<Tid>>) -> bool
+    ensures { IsTrue result ↔ (length lists.now ≡ slots_of_level graph.now.params.m level) }
+{
+    lists.len() as u64 == slots_of_level(graph.params.m, level)
+}
+
+// Whether a node of this level stands at the place.
+fn has_level(graph: &Graph, at: Tid, level: u8) -> bool
+    ensures { IsTrue result ↔ HasLevel graph.now at level }
+{
+    match graph.nodes.get(at) {
+        Some(node) => node.level == level,
+        None => false,
+    }
+}
+
+// The layer of a slot; 0 for one past the last.
+fn layer_of(m: u16, level: u8, slot: u16) -> u16
+    ensures { result ≡ slot_layer m level slot }
+{
+    let above = if m == 0 { 0 } else { slot / m };
+    u16::from(level).saturating_sub(above)
 }

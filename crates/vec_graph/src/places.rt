@@ -183,7 +183,7 @@ impl Graph {
 }
 
 // How many slots a node of this level has.
-fn slots_of_level(m: u16, level: u8) -> u64
+pub(crate) fn slots_of_level(m: u16, level: u8) -> u64
     ensures exact { result ≡ slots_of_level m level }
     ensures small { result < 2 ^ 25 }
 {
