@@ -1,17 +1,21 @@
 -- What the node at a place says of a rule.
-use Rattle.std.proofs.Common.{◌≡◌, ◌↔◌, ℕ, ◌≤◌, ◌<◌, ◌≢◌, ◌^◌, List, length, Some, sym, subst, ◌∙◌}
+use Rattle.std.proofs.Common.{◌≡◌, ◌↔◌, ℕ, ◌≤◌, ◌<◌, ◌≢◌, ◌^◌, Bool, List, length, Option, Some, sym, subst, ◌∙◌}
 use Rattle.std.proofs.lemmas.Option.{same_Some}
 use Rattle.vec_names.specs.declared.tid.Tid.{Tid}
 use Rattle.vec_event.specs.declared.event.Act.{Act}
 use Rattle.vec_event.specs.declared.gate.Gate.TheVariants.{Update}
+use Rattle.vec_event.specs.declared.gate.Hold.TheVariants.{Alone}
 use Rattle.vec_event.specs.declared.stage.Stage.TheVariants.{Remove, Mark}
-use Rattle.vec_history.specs.Gates.{Holds}
+use Rattle.vec_history.specs.Gates.{Holds, HoldsAs}
 use Rattle.vec_history.specs.Phases.{IsInPhase}
 use Rattle.vec_graph.specs.declared.node.Node.{Node}
 use Rattle.vec_graph.specs.declared.graph.Graph.{Graph}
 use Rattle.vec_graph.specs.Effect.{after}
-use Rattle.vec_graph.specs.Graph.{node_at, IsDoomed, HasLevel}
-use Rattle.vec_graph.specs.Rules.{IsThere, IsJoinAllowed, IsDropAllowed, IsMarkAllowed}
+use Rattle.vec_graph.specs.Graph.{node_at, IsDoomed, IsLiveAt, HasLevel, slot_layer}
+use Rattle.vec_graph.specs.Rules.{IsThere, KnowsMembers, IsPutAllowed, IsJoinAllowed, IsLinkAllowed, IsRelistAllowed, IsDropAllowed, IsMarkAllowed, IsEntryAtAllowed, IsNoEntryAllowed}
+use Rattle.vec_graph.specs.Places.{Spot}
+use Rattle.vec_graph.specs.Knowing.{Knows}
+use Rattle.vec_graph.specs.Deciding.{IsFitting}
 
 -- one node at most is there
 pub same_there : (g : Graph) (at : Tid) (version : ℕ) (n m : Node) → IsThere g at version n → IsThere g at version m → n ≡ m
@@ -40,6 +44,56 @@ module _ (base : Graph) (acts : List Act) (g : Graph) (state : g ≡ after base 
   mark_by desk at list_at version n there phase = (
     λ h. record { phase = phase; node = n; there = here at version n there; listed = h.0; doomed = h.1 },
     λ may. subst (λ (m : Node). (m.list_at ≡ list_at) × IsDoomed m) (same_there _ at version may.node n may.there (here at version n there)) (may.listed, may.doomed),
+  )
+
+  pub put_by : (desk : ℕ) (spot : Spot) (level : ℕ) (bits : List Bool) (lists : List (Option Tid)) → IsFitting g spot level bits lists → Holds acts desk Update
+      → KnowsMembers base acts desk level lists ↔ IsPutAllowed base acts desk spot.at spot.list_at spot.version level bits lists
+  put_by desk spot level bits lists fits update =
+      let fit = subst (λ h. IsFitting h spot level bits lists) state fits in (
+        λ known. record { update = update; placed = fit.placed; as_long = fit.as_long; not_high = fit.not_high; as_many = fit.as_many; known = known },
+        λ may. may.known,
+      )
+
+  pub not_put : (desk : ℕ) (spot : Spot) (level : ℕ) (bits : List Bool) (lists : List (Option Tid)) → (IsFitting g spot level bits lists → ⊥)
+      → IsPutAllowed base acts desk spot.at spot.list_at spot.version level bits lists → ⊥
+  not_put desk spot level bits lists not may =
+      not (subst (λ h. IsFitting h spot level bits lists) (sym state) (record { placed = may.placed; as_long = may.as_long; not_high = may.not_high; as_many = may.as_many }))
+
+  pub link_by : (desk : ℕ) (at list_at : Tid) (version slot : ℕ) (to : Tid) (n : Node) → IsThere g at version n → Holds acts desk Update
+      → n.list_at ≡ list_at → slot < length n.slots
+      → Knows base acts desk to (slot_layer g.params.m n.level slot) ↔ IsLinkAllowed base acts desk at list_at version slot to
+  link_by desk at list_at version slot to n there update listed slot_is = (
+    λ known. record {
+      update = update;
+      owner = n;
+      there = here at version n there;
+      listed = listed;
+      slot_is = slot_is;
+      known = subst (λ (h : Graph). Knows base acts desk to (slot_layer h.params.m n.level slot)) state known;
+    },
+    λ may. subst (λ (h : Graph). Knows base acts desk to (slot_layer h.params.m n.level slot)) (sym state)
+        (subst (λ (m : Node). Knows base acts desk to (slot_layer (after base acts).params.m m.level slot)) (same_there _ at version may.owner n may.there (here at version n there)) may.known),
+  )
+
+  pub relist_by : (desk : ℕ) (at list_at : Tid) (version : ℕ) (lists : List (Option Tid)) (n : Node) → IsThere g at version n → Holds acts desk Update
+      → n.list_at ≡ list_at → length lists ≡ length n.slots
+      → KnowsMembers base acts desk n.level lists ↔ IsRelistAllowed base acts desk at list_at version lists
+  relist_by desk at list_at version lists n there update listed as_many = (
+    λ known. record { update = update; owner = n; there = here at version n there; listed = listed; as_many = as_many; known = known },
+    λ may. subst (λ (m : Node). KnowsMembers base acts desk m.level lists) (same_there _ at version may.owner n may.there (here at version n there)) may.known,
+  )
+
+  pub entry_by : (desk : ℕ) (to : Tid) (level : ℕ) → HasLevel g to level → Holds acts desk Update
+      → Knows base acts desk to level ↔ IsEntryAtAllowed base acts desk to level
+  entry_by desk to level has update =
+      let there = subst (λ h. HasLevel h to level) state has in
+      (λ known. record { update = update; node = there.node; stands = there.stands; of_level = there.of_level; known = known }, λ may. may.known)
+
+  pub no_entry_by : (desk level : ℕ) → HoldsAs acts desk Update Alone → level ≡ 0
+      → ((at : Tid) → IsLiveAt g at 0 → ⊥) ↔ IsNoEntryAllowed base acts desk level
+  no_entry_by desk level alone level_0 = (
+    λ none. record { alone = alone; level_0 = level_0; none_live = λ at live. none at (subst (λ h. IsLiveAt h at 0) (sym state) live) },
+    λ may at live. may.none_live at (subst (λ h. IsLiveAt h at 0) state live),
   )
 
 pub level_by : (g : Graph) (at : Tid) (level : ℕ) (n : Node) → node_at g at ≡ Some n → (n.level ≡ level) ↔ HasLevel g at level

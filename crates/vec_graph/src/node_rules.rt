@@ -3,7 +3,8 @@
 ghost use Rattle.std.specs.Prelude.{◌≡◌, ◌↔◌, ◌+◌, ◌≤◌, ◌<◌, ◌^◌, ◌≢◌, IsTrue, IfSome, IfNone, length};
 ghost use Rattle.std.specs.Option.{option_map};
 ghost use Rattle.vec_event.specs.declared.gate.Gate.TheVariants.{Update};
-ghost use Rattle.vec_history.specs.Gates.{Holds};
+ghost use Rattle.vec_event.specs.declared.gate.Hold.TheVariants.{Alone};
+ghost use Rattle.vec_history.specs.Gates.{Holds, HoldsAs};
 ghost use Rattle.vec_graph.specs.declared.node.Node.{Node as Nodes};
 ghost use Rattle.vec_graph.specs.Graph.{HasLevel, slot_layer, slots_of_level};
 ghost use Rattle.vec_graph.specs.Effect.{after};
@@ -16,7 +17,7 @@ use crate::node::Node;
 use crate::places::{Place, slots_of_level};
 use crate::words::is_doomed;
 use bit_code::Bits;
-use vec_event::{Act, Gate, Stage};
+use vec_event::{Act, Gate, Hold, Stage};
 use vec_history::{held, is_in_phase};
 use vec_names::{Listed, Tid};
 
@@ -24,6 +25,15 @@ pub(crate) fn holds(acts: &[Act], desk: u32, gate: Gate) -> bool
     ensures { IsTrue result ↔ Holds acts.now desk gate }
 {
     held(acts, desk, gate).is_some()
+}
+
+pub(crate) fn holds_alone(acts: &[Act], desk: u32, gate: Gate) -> bool
+    ensures { IsTrue result ↔ HoldsAs acts.now desk gate Alone }
+{
+    match held(acts, desk, gate) {
+        Some((hold, _)) => hold == Hold::Alone,
+        None => false,
+    }
 }
 
 // The node at a place, if it has this version and is not deleted.
