@@ -10,3 +10,4 @@ pub mod Lent
 pub mod NodeWords
 pub mod AllowedNodes
 pub mod SamePlaces
+pub mod GrowingStates

@@ -2,6 +2,7 @@ pub mod Graph
 pub mod Places
 pub mod Spots
 pub mod Effect
+pub mod Course
 pub mod Knowing
 pub mod Cleaning
 pub mod Rules

@@ -7,6 +7,7 @@
 //! their words.
 #![tactic(auto)]
 
+mod audit;
 mod changes;
 mod fault;
 mod graph;
