@@ -1,5 +1,5 @@
 -- What the node at a place says of a rule.
-use Rattle.std.proofs.Common.{◌≡◌, ◌↔◌, ℕ, ◌≤◌, ◌<◌, ◌≢◌, ◌^◌, Bool, List, length, Option, Some, sym, subst, ◌∙◌}
+use Rattle.std.proofs.Common.{◌≡◌, ◌↔◌, ℕ, ◌≤◌, ◌<◌, ◌≢◌, ◌^◌, List, length, Option, Some, sym, subst, ◌∙◌}
 use Rattle.std.proofs.lemmas.Option.{same_Some}
 use Rattle.vec_names.specs.declared.tid.Tid.{Tid}
 use Rattle.vec_event.specs.declared.event.Act.{Act}
@@ -11,11 +11,9 @@ use Rattle.vec_history.specs.Phases.{IsInPhase}
 use Rattle.vec_graph.specs.declared.node.Node.{Node}
 use Rattle.vec_graph.specs.declared.graph.Graph.{Graph}
 use Rattle.vec_graph.specs.Effect.{after}
-use Rattle.vec_graph.specs.Graph.{node_at, IsDoomed, IsLiveAt, HasLevel, slot_layer}
-use Rattle.vec_graph.specs.Rules.{IsThere, KnowsMembers, IsPutAllowed, IsJoinAllowed, IsLinkAllowed, IsRelistAllowed, IsDropAllowed, IsMarkAllowed, IsEntryAtAllowed, IsNoEntryAllowed}
-use Rattle.vec_graph.specs.Places.{Spot}
+use Rattle.vec_graph.specs.Graph.{node_at, IsDoomed, IsDoomedAt, IsLiveAt, HasLevel, slot_layer}
+use Rattle.vec_graph.specs.Rules.{IsThere, KnowsMembers, IsJoinAllowed, IsLinkAllowed, IsRelistAllowed, IsDropAllowed, IsMarkAllowed, IsEntryAtAllowed, IsNoEntryAllowed, IsVacuumEndAllowed}
 use Rattle.vec_graph.specs.Knowing.{Knows}
-use Rattle.vec_graph.specs.Deciding.{IsFitting}
 
 -- one node at most is there
 pub same_there : (g : Graph) (at : Tid) (version : ℕ) (n m : Node) → IsThere g at version n → IsThere g at version m → n ≡ m
@@ -45,19 +43,6 @@ module _ (base : Graph) (acts : List Act) (g : Graph) (state : g ≡ after base 
     λ h. record { phase = phase; node = n; there = here at version n there; listed = h.0; doomed = h.1 },
     λ may. subst (λ (m : Node). (m.list_at ≡ list_at) × IsDoomed m) (same_there _ at version may.node n may.there (here at version n there)) (may.listed, may.doomed),
   )
-
-  pub put_by : (desk : ℕ) (spot : Spot) (level : ℕ) (bits : List Bool) (lists : List (Option Tid)) → IsFitting g spot level bits lists → Holds acts desk Update
-      → KnowsMembers base acts desk level lists ↔ IsPutAllowed base acts desk spot.at spot.list_at spot.version level bits lists
-  put_by desk spot level bits lists fits update =
-      let fit = subst (λ h. IsFitting h spot level bits lists) state fits in (
-        λ known. record { update = update; placed = fit.placed; as_long = fit.as_long; not_high = fit.not_high; as_many = fit.as_many; known = known },
-        λ may. may.known,
-      )
-
-  pub not_put : (desk : ℕ) (spot : Spot) (level : ℕ) (bits : List Bool) (lists : List (Option Tid)) → (IsFitting g spot level bits lists → ⊥)
-      → IsPutAllowed base acts desk spot.at spot.list_at spot.version level bits lists → ⊥
-  not_put desk spot level bits lists not may =
-      not (subst (λ h. IsFitting h spot level bits lists) (sym state) (record { placed = may.placed; as_long = may.as_long; not_high = may.not_high; as_many = may.as_many }))
 
   pub link_by : (desk : ℕ) (at list_at : Tid) (version slot : ℕ) (to : Tid) (n : Node) → IsThere g at version n → Holds acts desk Update
       → n.list_at ≡ list_at → slot < length n.slots
@@ -94,6 +79,12 @@ module _ (base : Graph) (acts : List Act) (g : Graph) (state : g ≡ after base 
   no_entry_by desk level alone level_0 = (
     λ none. record { alone = alone; level_0 = level_0; none_live = λ at live. none at (subst (λ h. IsLiveAt h at 0) (sym state) live) },
     λ may at live. may.none_live at (subst (λ h. IsLiveAt h at 0) state live),
+  )
+
+  pub end_by : (desk : ℕ) → IsInPhase acts desk Mark → ((at : Tid) → IsDoomedAt g at → ⊥) ↔ IsVacuumEndAllowed base acts desk
+  end_by desk phase = (
+    λ none. record { phase = phase; none_doomed = λ at doomed. none at (subst (λ h. IsDoomedAt h at) (sym state) doomed) },
+    λ may at doomed. may.none_doomed at (subst (λ h. IsDoomedAt h at) state doomed),
   )
 
 pub level_by : (g : Graph) (at : Tid) (level : ℕ) (n : Node) → node_at g at ≡ Some n → (n.level ≡ level) ↔ HasLevel g at level

@@ -12,11 +12,14 @@ mod changes;
 mod fault;
 mod graph;
 mod law;
+mod linking_rules;
 mod node;
 mod node_rules;
 mod places;
+mod vacuum_rules;
 mod words;
 
+pub use audit::audit_hnsw;
 pub use fault::AuditFault;
 pub use graph::Graph;
 pub use law::{

@@ -6,7 +6,7 @@ ghost use Rattle.vec_event.specs.declared.gate.Gate.TheVariants.{Update};
 ghost use Rattle.vec_event.specs.declared.gate.Hold.TheVariants.{Alone};
 ghost use Rattle.vec_history.specs.Gates.{Holds, HoldsAs};
 ghost use Rattle.vec_graph.specs.declared.node.Node.{Node as Nodes};
-ghost use Rattle.vec_graph.specs.Graph.{HasLevel, slot_layer, slots_of_level};
+ghost use Rattle.vec_graph.specs.Graph.{HasLevel, slots_of_level};
 ghost use Rattle.vec_graph.specs.Effect.{after};
 ghost use Rattle.vec_graph.specs.Deciding.{IsFitting};
 ghost use Rattle.vec_graph.specs.Spots.{spot_of};
@@ -37,7 +37,7 @@ pub(crate) fn holds_alone(acts: &[Act], desk: u32, gate: Gate) -> bool
 }
 
 // The node at a place, if it has this version and is not deleted.
-fn there(graph: &Graph, at: Tid, version: u8) -> Option<&Node>
+pub(crate) fn there(graph: &Graph, at: Tid, version: u8) -> Option<&Node>
     ensures found { IfSome result (λ n. IsThere graph.now at version n.now) }
     ensures none { IfNone result ((n : Nodes) → IsThere graph.now at version n → ⊥) }
 {
@@ -154,7 +154,7 @@ pub(crate) fn may_mark(
 }
 
 // Whether the places are the same.
-fn are_same(one: Tid, other: Tid) -> bool
+pub(crate) fn are_same(one: Tid, other: Tid) -> bool
     ensures { IsTrue result ↔ (one ≡ other) }
 {
     one == other
@@ -179,7 +179,13 @@ fn most_level(m: u16) -> u16
 }
 
 // Whether a new node of this level fits the graph at this place.
-fn fits(graph: &Graph, place: Place, level: u8, bits: &Bits, lists: &Listed<Option<Tid>>) -> bool
+pub(crate) fn fits(
+    graph: &Graph,
+    place: Place,
+    level: u8,
+    bits: &Bits,
+    lists: &Listed<Option<Tid>>,
+) -> bool
     ensures { IsTrue result ↔ IsFitting graph.now (spot_of place) level bits.now lists.now }
 {
     bits.count() == graph.params.bits
@@ -195,19 +201,11 @@ fn has_slots_of(graph: &Graph, level: u8, lists: &Listed<Option<Tid>>) -> bool
 }
 
 // Whether a node of this level stands at the place.
-fn has_level(graph: &Graph, at: Tid, level: u8) -> bool
+pub(crate) fn has_level(graph: &Graph, at: Tid, level: u8) -> bool
     ensures { IsTrue result ↔ HasLevel graph.now at level }
 {
     match graph.nodes.get(at) {
         Some(node) => node.level == level,
         None => false,
     }
-}
-
-// The layer of a slot; 0 for one past the last.
-fn layer_of(m: u16, level: u8, slot: u16) -> u16
-    ensures { result ≡ slot_layer m level slot }
-{
-    let above = if m == 0 { 0 } else { slot / m };
-    u16::from(level).saturating_sub(above)
 }
