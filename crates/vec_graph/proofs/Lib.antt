@@ -6,3 +6,5 @@ pub mod Layers
 pub mod FirstInsert
 pub mod IdleVacuum
 pub mod NodeWords
+pub mod Positions
+pub mod KnownNodes

@@ -7,3 +7,5 @@ pub mod Rules
 pub mod Legal
 pub mod Sound
 pub mod Examples
+pub mod Course
+pub mod Knowable

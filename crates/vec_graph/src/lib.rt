@@ -8,6 +8,7 @@
 #![tactic(auto)]
 
 mod graph;
+mod knowing;
 mod law;
 mod node;
 mod words;
