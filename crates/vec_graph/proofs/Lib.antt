@@ -11,3 +11,5 @@ pub mod NodeWords
 pub mod AllowedNodes
 pub mod SamePlaces
 pub mod GrowingStates
+pub mod Positions
+pub mod KnownNodes

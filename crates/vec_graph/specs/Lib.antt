@@ -11,3 +11,4 @@ pub mod Sound
 pub mod Examples
 pub mod Judging
 pub mod Deciding
+pub mod Knowable

@@ -11,6 +11,7 @@ mod audit;
 mod changes;
 mod fault;
 mod graph;
+mod knowing;
 mod law;
 mod linking_rules;
 mod node;
