@@ -5,8 +5,9 @@ ghost use Rattle.vec_graph.specs.Effect.{after};
 ghost use Rattle.vec_graph.specs.Course.{AreStates};
 ghost use Rattle.vec_graph.specs.Rules.{IsPutAllowed, IsLinkAllowed, IsRelistAllowed, IsEntryAtAllowed, IsNoEntryAllowed, IsEntryAllowed};
 
+use crate::cleaning::none_live;
 use crate::graph::Graph;
-use crate::knowing::{knows, knows_members, layer_of_slot, none_live};
+use crate::knowing::{knows, knows_members, layer_of_slot};
 use crate::node_rules::{are_same, fits, has_level, holds, holds_alone, there};
 use crate::places::Place;
 use bit_code::Bits;

@@ -4,8 +4,8 @@ ghost use Rattle.std.specs.Prelude.{◌≡◌, ◌↔◌, IsTrue};
 ghost use Rattle.vec_graph.specs.Course.{AreStates};
 ghost use Rattle.vec_graph.specs.Rules.{IsPhaseAllowed, IsVacuumEndAllowed, IsCancelAllowed};
 
+use crate::cleaning::{is_repaired, none_doomed};
 use crate::graph::Graph;
-use crate::knowing::{is_repaired, none_doomed};
 use crate::linking_rules::last_of;
 use vec_event::{Act, Stage};
 use vec_history::{is_in_phase, may_begin_remove, removed};

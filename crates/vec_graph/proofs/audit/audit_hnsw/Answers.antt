@@ -13,7 +13,7 @@ loop-k-preserved c =
     let k = c.loop-k.k in
     let act = c.index-acts-k.result in
     let more : take (k + 1) acts ≡ take k acts ++ act ∷ [] =
-        take_more acts k act (omega arith) ∙ ap (λ (a : Act). take k acts ++ a ∷ []) (sym c.index-acts-k.is) in
+    take_more acts k act (omega arith) ∙ ap (λ (a : Act). take k acts ++ a ∷ []) (sym c.index-acts-k.is) in
     let may = c.is_allowed.ensures.0 c.if-not-is_allowed.false in
     record {
       legal = subst (IsLegal base) (sym more) (more_after base [] (take k acts) act c.loop-k.invariant.legal may);
