@@ -8,3 +8,6 @@ pub mod IdleVacuum
 pub mod NodeWords
 pub mod Positions
 pub mod KnownNodes
+pub mod MapEntries
+pub mod CleanNodes
+pub mod Repairing

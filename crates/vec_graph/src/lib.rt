@@ -7,6 +7,7 @@
 //! their words.
 #![tactic(auto)]
 
+mod cleaning;
 mod graph;
 mod knowing;
 mod law;
