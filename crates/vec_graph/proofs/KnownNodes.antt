@@ -1,5 +1,5 @@
 -- What a desk knows, by the graphs since it took Update.
-use Rattle.std.proofs.Common.{◌≡◌, ◌↔◌, ℕ, ◌+◌, ◌<◌, ◌≤◌, List, ◌-◌, length, take, drop, slice_get, Option, Some, None, Any, refl, sym, ap, subst, arith}
+use Rattle.std.proofs.Common.{◌≡◌, ◌↔◌, ℕ, ◌+◌, ◌<◌, List, ◌-◌, length, take, drop, slice_get, Option, Some, None, refl, subst, arith}
 use Rattle.std.proofs.lemmas.Option.{slice_get_within}
 use Rattle.vec_names.specs.declared.tid.Tid.{Tid}
 use Rattle.vec_event.specs.declared.event.Act.{Act}

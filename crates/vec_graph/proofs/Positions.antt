@@ -1,11 +1,10 @@
 -- Positions of a history, and the graphs that it goes through.
-use Rattle.std.proofs.Common.{◌≡◌, ◌↔◌, ℕ, inl, inr, zero, suc, ◌+◌, ◌-◌, ◌<◌, ◌≤◌, List, [], ◌∷◌, length, take, drop, slice_get, Some, Any, refl, sym, ap, subst, ◌∙◌, length-take, arith}
-use Rattle.std.proofs.lemmas.List.{take_all}
-use Rattle.std.proofs.lemmas.Option.{slice_get_read, slice_get_within, get_or_from_slice_get, same_Some, none-some}
+use Rattle.std.proofs.Common.{◌≡◌, ◌↔◌, ℕ, inl, inr, zero, suc, ◌+◌, ◌-◌, ◌<◌, ◌≤◌, List, [], ◌∷◌, length, take, drop, slice_get, Some, refl, sym, ap, subst, ◌∙◌, length-take, arith}
+use Rattle.std.proofs.lemmas.Option.{slice_get_within, same_Some}
 use Rattle.vec_history.proofs.Parts.{in_order, in_whole, in_part}
 use Rattle.vec_event.specs.declared.event.Act.{Act}
 use Rattle.vec_graph.specs.declared.graph.Graph.{Graph}
-use Rattle.vec_graph.specs.Effect.{state_after, after}
+use Rattle.vec_graph.specs.Effect.{state_after}
 use Rattle.vec_graph.specs.Course.{AreStates}
 use Rattle.vec_graph.specs.Cleaning.{SomeState}
 use Rattle.vec_graph.specs.Knowable.{IsSomewhere}
@@ -66,8 +65,3 @@ some_state_in base acts states low high n P course within as_many = (
         is = some.is;
       },
 )
-
--- the graph after all acts is the last one
-pub last_state : (base : Graph) (acts : List Act) (states : List Graph) → AreStates base acts states → slice_get states (length acts) ≡ Some (after base acts)
-last_state base acts states course =
-    course.each (length acts) (omega arith) ∙ ap (λ (before : List Act). Some (after base before)) (take_all (length acts) acts (omega arith))

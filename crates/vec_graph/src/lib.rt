@@ -9,6 +9,7 @@
 
 mod audit;
 mod changes;
+mod cleaning;
 mod fault;
 mod graph;
 mod knowing;

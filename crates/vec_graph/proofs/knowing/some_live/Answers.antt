@@ -1,6 +1,5 @@
-use Rattle.std.proofs.Common.{◌≡◌, length, slice_get, Some, refl, sym, ◌∙◌, arith}
+use Rattle.std.proofs.Common.{◌≡◌, slice_get, Some, refl, arith}
 use Rattle.std.proofs.lemmas.Option.{slice_get_read}
-use Rattle.vec_graph.specs.declared.graph.Graph.{Graph}
 use Rattle.vec_graph.specs.Graph.{IsLiveAt}
 use Rattle.vec_graph.proofs.Positions.{found, none_more, none_at_all}
 use Rattle.vec_graph.proofs.knowing.some_live.Goals as goal
