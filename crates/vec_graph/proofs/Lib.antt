@@ -10,3 +10,13 @@ pub mod Remaining
 pub mod Later
 pub mod NodeWords
 pub mod Asked
+pub mod Copies
+pub mod Lent
+pub mod AllowedNodes
+pub mod SamePlaces
+pub mod GrowingStates
+pub mod Positions
+pub mod KnownNodes
+pub mod MapEntries
+pub mod CleanNodes
+pub mod Repairing

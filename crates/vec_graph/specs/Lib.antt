@@ -1,6 +1,8 @@
 pub mod Graph
 pub mod Places
+pub mod Spots
 pub mod Effect
+pub mod Course
 pub mod Knowing
 pub mod Cleaning
 pub mod Rules
@@ -8,3 +10,6 @@ pub mod Legal
 pub mod Sound
 pub mod Asking
 pub mod Examples
+pub mod Judging
+pub mod Deciding
+pub mod Knowable

@@ -1,6 +1,9 @@
 //! The nodes of the graph.
 
+ghost use Rattle.std.specs.Prelude.{◌≡◌, IfOk};
+
 use bit_code::Bits;
+use std::alloc::{AllocError, Global};
 use vec_names::{HeapId, Listed, Tid};
 
 /// One node of the graph: a bit value, with the rows of the table that have it, and its neighbours.
@@ -20,4 +23,34 @@ pub struct Node {
     /// Its neighbours, the highest layer first: m in each layer above the lowest, and 2m in that. None
     /// is a slot in which no neighbour stands.
     pub slots: Listed<Option<Tid>>,
+}
+
+impl Node {
+    /// An equal node, in memory of its own.
+    pub fn try_clone(&self, alloc: Global) -> Result<Node, AllocError>
+        ensures { IfOk result (λ copy. copy ≡ self.now) }
+    {
+        let bits = copy_of(&self.bits)?;
+        let ids = self.ids.try_clone(alloc)?;
+        let slots = self.slots.try_clone(alloc)?;
+        Ok(Node {
+            level: self.level,
+            version: self.version,
+            deleted: self.deleted,
+            bits,
+            ids,
+            list_at: self.list_at,
+            slots,
+        })
+    }
+}
+
+/// An equal value, in memory of its own.
+pub(crate) fn copy_of(bits: &Bits) -> Result<Bits, AllocError>
+    ensures { IfOk result (λ copy. copy ≡ bits.now) }
+{
+    match bits.try_clone() {
+        Ok(copy) => Ok(copy),
+        Err(_) => Err(AllocError),
+    }
 }

@@ -1,5 +1,5 @@
 -- One last barrier, and what it says of drops.
-use Rattle.std.proofs.Common.{◌≡◌, inl, inr, ℕ, List, subst}
+use Rattle.std.proofs.Common.{◌≡◌, inl, inr, ℕ, ◌+◌, List, sym, ap, subst, ◌∙◌}
 use Rattle.vec_event.specs.declared.event.Act.{Act}
 use Rattle.vec_event.specs.declared.gate.Gate.{Gate}
 use Rattle.vec_event.specs.declared.gate.Gate.TheVariants.{Update}
@@ -21,3 +21,7 @@ pub drops_before_removed : (acts : List Act) (desk behind barrier position : ℕ
     → NoneAfter acts barrier IsActDrop
 drops_before_removed acts desk behind barrier position last r =
     subst (λ k. NoneAfter acts k IsActDrop) (one_last_barrier acts desk Update r.begun behind r.barrier barrier r.update last) r.drops_before
+
+pub one_removed : (acts : List Act) (desk p q : ℕ) → IsRemoved acts desk p → IsRemoved acts desk q → p ≡ q
+one_removed acts desk p q r s =
+    r.here ∙ ap (λ k. k + 1) (one_last_barrier acts desk Update r.begun s.begun r.barrier s.barrier r.update s.update) ∙ sym s.here
