@@ -11,7 +11,7 @@ use Rattle.bit_dist.specs.Ranking.{placed, ranked}
 use Rattle.bit_dist.proofs.RankedOrder.{ranked_permutes}
 use Rattle.ivf_graph.specs.declared.list.IvfList.{IvfList}
 use Rattle.ivf_graph.specs.declared.graph.IvfGraph.{IvfGraph}
-use Rattle.ivf_graph.specs.Graph.{Row, Part, parts, rows}
+use Rattle.ivf_graph.specs.Graph.{Row, Part, rows}
 use Rattle.ivf_graph.specs.Answer.{found_from, found_on, found, probed, is_nearer, by_nearness, hit_of, hit_of_row, ivf_answer}
 use Rattle.ivf_graph.proofs.AnswerOrder.{answer_permutes}
 
@@ -86,10 +86,10 @@ found_whole : (g : IvfGraph) (query : List Bool) (probes : ℕ) → length g.lis
     → IsPermutation (flat_map (λ l. flat_map (found_on query) l.chain) g.lists) (found g query probes)
 found_whole g query probes enough =
     let whole : take probes (by_nearness g query) ≡ by_nearness g query =
-      take_all probes (by_nearness g query) (subst (λ n. n ≤ probes) (sym (as_many g query)) enough) in
+    take_all probes (by_nearness g query) (subst (λ n. n ≤ probes) (sym (as_many g query)) enough) in
     let is_found : flat_map (λ (e : ℕ × IvfList). flat_map (found_on query) e.1.chain) (by_nearness g query) ≡ found g query probes =
-      sym (flat_map-map (λ l. flat_map (found_on query) l.chain) (λ (e : ℕ × IvfList). e.1) (by_nearness g query))
-      ∙ ap (λ es. flat_map (λ l. flat_map (found_on query) l.chain) (map (λ (e : ℕ × IvfList). e.1) es)) (sym whole) in
+    sym (flat_map-map (λ l. flat_map (found_on query) l.chain) (λ (e : ℕ × IvfList). e.1) (by_nearness g query))
+    ∙ ap (λ es. flat_map (λ l. flat_map (found_on query) l.chain) (map (λ (e : ℕ × IvfList). e.1) es)) (sym whole) in
     subst (λ fs. IsPermutation fs (found g query probes)) (flat_map-enumerate_from (λ l. flat_map (found_on query) l.chain) 0 g.lists)
     (subst (IsPermutation (flat_map (λ (e : ℕ × IvfList). flat_map (found_on query) e.1.chain) (enumerate_from 0 g.lists))) is_found
     (joined_ranked (λ (e : ℕ × IvfList). flat_map (found_on query) e.1.chain) (is_nearer query) (enumerate_from 0 g.lists)))

@@ -1,5 +1,5 @@
 -- Reading along chains, in one state.
-use Rattle.std.proofs.Common.{◌≡◌, ℕ, suc, replicate, ◌==◌, Bool, true, false, cond, List, [], ◌∷◌, ◌++◌, map, Option, Some, None, refl, sym, ap, subst, ◌∙◌, append_assoc, append-nil, eqb, eq-eqb}
+use Rattle.std.proofs.Common.{◌≡◌, ℕ, suc, replicate, ◌==◌, Bool, false, cond, List, [], ◌∷◌, ◌++◌, map, Option, Some, None, refl, sym, ap, subst, ◌∙◌, append_assoc, eqb, eq-eqb}
 use Rattle.std.specs.List.{flat_map, filter_map, cons_option, find, AllByRecursion, IsDistinct}
 use Rattle.std.specs.Option.{option_map, option_and_then}
 use Rattle.std.proofs.lemmas.Option.{same_Some}
@@ -7,7 +7,7 @@ use Rattle.std.proofs.lemmas.List.{map-append}
 use Rattle.std.proofs.lemmas.Map.Keys.{IsDistinct-head, IsDistinct-tail}
 use Rattle.ivf_graph.specs.declared.list.IvfList.{IvfList}
 use Rattle.ivf_graph.specs.declared.graph.IvfGraph.{IvfGraph}
-use Rattle.ivf_graph.specs.Graph.{Row, Part, parts, rows_on, AreBlocksApart}
+use Rattle.ivf_graph.specs.Graph.{Part, parts, rows_on, AreBlocksApart}
 use Rattle.ivf_graph.specs.Answer.{Found, found_on}
 use Rattle.ivf_graph.specs.Reads.{first_block, links, all_links, next_on, Walks}
 use Rattle.ivf_graph.specs.Reads.Walks.{done, begins, reads}

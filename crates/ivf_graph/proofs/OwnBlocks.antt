@@ -1,12 +1,12 @@
 -- Each block stays where it stands, and new ones are the next.
-use Rattle.std.proofs.Common.{◌≡◌, ◌==◌, ℕ, zero, suc, ◌+◌, ◌<◌, max, Bool, true, false, List, [], ◌∷◌, ◌++◌, map, slice_get, Option, Some, refl, sym, ap, subst, ◌∙◌, append_assoc, eqb, arith}
+use Rattle.std.proofs.Common.{◌≡◌, ◌==◌, ℕ, zero, suc, ◌+◌, ◌<◌, max, Bool, true, false, List, [], ◌∷◌, ◌++◌, map, slice_get, Some, refl, sym, ap, subst, ◌∙◌, append_assoc, eqb, arith}
 use Rattle.std.specs.Prelude.{if◌then◌else◌}
 use Rattle.std.specs.List.{flat_map, All, AllByRecursion, IsDistinct}
 use Rattle.std.specs.List.Sorted.{IsPermutation}
 use Rattle.std.proofs.lemmas.Bool.Decides.{nat_tests}
 use Rattle.std.proofs.lemmas.Option.{none-some}
 use Rattle.std.proofs.lemmas.List.{map-append}
-use Rattle.std.proofs.lemmas.List.Elements.{All-cons, All-head, All-tail, All-weaker}
+use Rattle.std.proofs.lemmas.List.Elements.{All-nil, All-cons, All-head, All-tail, All-weaker}
 use Rattle.std.proofs.lemmas.List.Sorted.{IsPermutation-sym, IsPermutation-trans, IsPermutation-map, IsPermutation-middle, IsPermutation-append_right, All-permutation}
 use Rattle.std.proofs.lemmas.Map.Keys.{IsDistinct-cons, IsDistinct-IsPermutation}
 use Rattle.vec_event.specs.declared.event.Event.{Event}
@@ -15,7 +15,7 @@ use Rattle.vec_event.specs.declared.event.Act.{Act}
 use Rattle.ivf_graph.specs.declared.list.IvfList.{IvfList}
 use Rattle.ivf_graph.specs.declared.graph.IvfGraph.{IvfGraph}
 use Rattle.ivf_graph.specs.Graph.{Row, Part, parts, block_numbers, AreBlocksOwn}
-use Rattle.ivf_graph.specs.Effect.{effect, after, changed_part, with_rows, changed, grown, aimed, with_row, others}
+use Rattle.ivf_graph.specs.Effect.{effect, after, changed_part, with_rows, changed, grown, with_row, others}
 use Rattle.ivf_graph.specs.Rules.{IsEventAllowed}
 use Rattle.ivf_graph.specs.Legal.{IsLegalAfter}
 use Rattle.ivf_graph.proofs.Judging.{after_more}
@@ -86,10 +86,10 @@ grown_own g list l block row is next own =
     let more : block + 1 ≡ max g.blocks (block + 1) = omega arith in
     record {
       apart = IsDistinct-IsPermutation eqb equal_either_way (block ∷ block_numbers g) (map (λ p. p.0) (flat_map (λ x. x.chain) (changed g.lists list (grown block row)))) moved
-        (IsDistinct-cons eqb block (block_numbers g) (above_all block (block_numbers g) below) own.apart);
+          (IsDistinct-cons eqb block (block_numbers g) (above_all block (block_numbers g) below) own.apart);
       within = subst (λ n. All (λ k. k < n) (map (λ p. p.0) (flat_map (λ x. x.chain) (changed g.lists list (grown block row))))) more
-        (All-permutation (λ k. k < block + 1) (block ∷ block_numbers g) (map (λ p. p.0) (flat_map (λ x. x.chain) (changed g.lists list (grown block row)))) moved
-        (All-cons (λ k. k < block + 1) block (block_numbers g) (omega arith) (All-weaker (λ k. k < block) (λ k. k < block + 1) (λ k h. omega arith) (block_numbers g) below)));
+          (All-permutation (λ k. k < block + 1) (block ∷ block_numbers g) (map (λ p. p.0) (flat_map (λ x. x.chain) (changed g.lists list (grown block row)))) moved
+          (All-cons (λ k. k < block + 1) block (block_numbers g) (omega arith) (All-weaker (λ k. k < block) (λ k. k < block + 1) (λ k h. omega arith) (block_numbers g) below)));
     }
 
 -- ---- histories
@@ -123,3 +123,17 @@ own_after base before (a ∷ acts) legal own =
     subst (λ g. AreBlocksOwn (after g acts)) (after_more base before a)
     (own_after base (before ++ a ∷ []) acts legal.1
     (subst AreBlocksOwn (sym (after_more base before a)) (own_event (after base before) before a.desk a.event legal.0 own)))
+
+-- ---- an index without lists
+
+none_apart : IsDistinct eqb []
+unfolding IsDistinct
+none_apart = tt
+
+pub none_own : (g : IvfGraph) → g.lists ≡ [] → AreBlocksOwn g
+none_own g none =
+    let no_numbers : [] ≡ block_numbers g = sym (ap (λ ls. map (λ p. p.0) (flat_map (λ l. l.chain) ls)) none) in
+    record {
+      apart = subst (IsDistinct eqb) no_numbers none_apart;
+      within = subst (All (λ b. b < g.blocks)) no_numbers (All-nil (λ b. b < g.blocks));
+    }

@@ -1,9 +1,8 @@
 -- Reads that are all of one state give the answer of that state.
-use Rattle.std.proofs.Common.{◌≡◌, ℕ, zero, suc, ◌+◌, ◌-◌, ◌*◌, ◌/◌, ◌%◌, ◌<◌, ◌≤◌, ◌==◌, min, Bool, true, false, List, [], ◌∷◌, ◌++◌, map, take, drop, length, replicate, Option, Some, None, refl, sym, ap, subst, ◌∙◌, append_assoc, append-nil, arith}
+use Rattle.std.proofs.Common.{◌≡◌, ℕ, zero, suc, ◌+◌, ◌-◌, ◌*◌, ◌/◌, ◌%◌, ◌<◌, ◌≤◌, min, Bool, true, false, List, [], ◌∷◌, ◌++◌, map, take, drop, length, replicate, Option, None, refl, sym, ap, subst, ◌∙◌, arith}
 use Rattle.std.specs.Prelude.{if◌then◌else◌}
 use Rattle.std.specs.Int.{div_ceil}
-use Rattle.std.specs.List.{flat_map, filter_map, cons_option, enumerate_from, AllByRecursion}
-use Rattle.std.specs.Option.{option_map}
+use Rattle.std.specs.List.{filter_map, cons_option, enumerate_from, AllByRecursion}
 use Rattle.std.proofs.Math.Nat.{lt-mul-div-succ}
 use Rattle.std.proofs.Math.Seq.{take-add}
 use Rattle.std.proofs.lemmas.List.{take-map, take-replicate, drop-replicate, length-replicate, map-append, take_all}
@@ -12,9 +11,9 @@ use Rattle.bit_dist.specs.Ranking.{placed, ranked}
 use Rattle.bit_dist.proofs.RankedOrder.{ranked-map}
 use Rattle.ivf_graph.specs.declared.list.IvfList.{IvfList}
 use Rattle.ivf_graph.specs.declared.graph.IvfGraph.{IvfGraph}
-use Rattle.ivf_graph.specs.Graph.{Row, Part, rows_on, page_room, AreBlocksApart}
-use Rattle.ivf_graph.specs.Answer.{Found, Hit, found_on, found, probed, is_nearer, by_nearness, answer_of, ivf_answer}
-use Rattle.ivf_graph.specs.Reads.{first_block, next_on, Centre, centre_of, centres_on, centre_need, centres_a_page, centre_pages, centres_read, is_centre_nearer, firsts, Walks, IsAnswerFrom}
+use Rattle.ivf_graph.specs.Graph.{AreBlocksApart}
+use Rattle.ivf_graph.specs.Answer.{Hit, found, probed, is_nearer, by_nearness, answer_of, ivf_answer}
+use Rattle.ivf_graph.specs.Reads.{first_block, Centre, centre_of, centres_on, centre_need, centres_a_page, centre_pages, centres_read, is_centre_nearer, firsts, Walks, IsAnswerFrom}
 use Rattle.ivf_graph.proofs.ChainsRead.{Told, AreTold, all_told, walked, some_walk}
 
 -- ---- the pages of the centres

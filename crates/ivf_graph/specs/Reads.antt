@@ -1,6 +1,6 @@
 -- What a search of the lists answers where each of its reads has a position of its own: first the pages of the centres, rising, and then the
 -- blocks of each probed chain, nearest list first.
-use Rattle.std.specs.Prelude.{◌≡◌, ℕ, ◌+◌, ◌-◌, ◌*◌, ◌/◌, ◌≤◌, ◌==◌, Bool, List, [], ◌∷◌, ◌++◌, find, length, map, slice_get, take, drop, Option, Some, None}
+use Rattle.std.specs.Prelude.{◌≡◌, ℕ, ◌+◌, ◌*◌, ◌/◌, ◌≤◌, ◌==◌, Bool, List, [], ◌∷◌, ◌++◌, find, length, map, slice_get, take, drop, Option, Some, None}
 use Rattle.std.specs.List.{flat_map, filter_map, enumerate_from}
 use Rattle.std.specs.Option.{option_map, option_and_then}
 use Rattle.std.specs.Int.{div_ceil}
