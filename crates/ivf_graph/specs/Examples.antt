@@ -4,13 +4,16 @@ use Rattle.std.proofs.Common.{lit<, lit≤}
 use Rattle.vec_names.specs.declared.heap_id.HeapId.{HeapId}
 use Rattle.bit_dist.specs.declared.dist.Dist.{Dist}
 use Rattle.bit_dist.specs.Distances.{one_positive}
+use Rattle.vec_event.specs.declared.event.Event.TheVariants as event
+use Rattle.vec_event.specs.declared.event.Act.{Act}
+use Rattle.vec_history.specs.Acts.{act_of}
 use Rattle.ivf_graph.specs.declared.list.IvfList.{IvfList}
 use Rattle.ivf_graph.specs.declared.graph.IvfGraph.{IvfGraph}
 
 abbrev pub four : Bool → Bool → Bool → Bool → List Bool
 four a b c d = a ∷ b ∷ c ∷ d ∷ []
 
--- the rows of the table's block 1, at the offsets 1 to 4
+-- the rows of the table's block 1, at the offsets 1 to 5
 abbrev pub row_1 : HeapId
 row_1 = record { block = 1; off = 1; within_blocks = lit< tt; counted_from_one = lit≤ tt; in_two_bytes = lit< tt }
 
@@ -22,6 +25,9 @@ row_3 = record { block = 1; off = 3; within_blocks = lit< tt; counted_from_one =
 
 abbrev pub row_4 : HeapId
 row_4 = record { block = 1; off = 4; within_blocks = lit< tt; counted_from_one = lit≤ tt; in_two_bytes = lit< tt }
+
+abbrev pub row_5 : HeapId
+row_5 = record { block = 1; off = 5; within_blocks = lit< tt; counted_from_one = lit≤ tt; in_two_bytes = lit< tt }
 
 -- n unequal places
 abbrev pub unequal_by : ℕ → Dist
@@ -40,3 +46,7 @@ worked_index = record {
       ∷ [];
   blocks = 5;
 }
+
+-- a further row, with the value 0110, comes on block 3
+abbrev pub worked_acts : List Act
+worked_acts = act_of 1 (event.IvfAdd 3 row_5 (four false true true false)) ∷ []

@@ -68,6 +68,10 @@ HasRoom rows places = taken rows + row_need places ≤ page_room
 
 -- ---- values
 
+-- the centres of the lists
+abbrev pub centres : IvfGraph → List (List Bool)
+centres g = map (λ l. l.centre) g.lists
+
 -- the value has the length of every centre
 abbrev pub IsAsLong : IvfGraph → List Bool → Type 0
 IsAsLong g bits = All (λ l. length l.centre ≡ length bits) g.lists

@@ -8,9 +8,9 @@ ghost use Rattle.vec_event.specs.declared.gate.Hold.{Hold as Holding};
 ghost use Rattle.vec_event.specs.declared.gate.Hold.TheVariants.{Alone};
 ghost use Rattle.vec_history.specs.Gates.{HoldsAs};
 ghost use Rattle.ivf_graph.specs.Answer.{Hit, ivf_answer, found, probed, hit_of, hit_of_row, hit_cmp};
-ghost use Rattle.ivf_graph.specs.Examples.{four, row_1, row_2, row_3, row_4, unequal_by, worked_index};
-ghost use Rattle.ivf_graph.specs.Graph.{rows, row_need, AreBlocksApart, AreBlocksOwn};
-ghost use Rattle.ivf_graph.specs.Reads.{IsAnswerFrom};
+ghost use Rattle.ivf_graph.specs.Examples.{four, row_1, row_2, row_3, row_4, row_5, unequal_by, worked_acts, worked_index};
+ghost use Rattle.ivf_graph.specs.Graph.{rows, centres, row_need, AreBlocksApart, AreBlocksOwn};
+ghost use Rattle.ivf_graph.specs.Reads.{centre_pages, IsAnswerAt, IsAnswerFrom};
 ghost use Rattle.ivf_graph.specs.Effect.{effect, after, AreRowsChanged};
 ghost use Rattle.ivf_graph.specs.Legal.{IsAllowed, IsLegal};
 
@@ -33,9 +33,10 @@ pub fn law_alone(base: &IvfGraph, acts: &[Act])
 {}
 
 /// A law, and no work. An event that adds no row, grows no chain and drops no rows leaves the rows of the
-/// lists as they are.
+/// lists as they are; and no event changes a centre or the number of lists.
 pub fn law_rows(index: &IvfGraph)
-    ensures { (e : Events) → AreRowsChanged e ⊎ (rows (effect e index.now) ≡ rows index.now) }
+    ensures same_rows { (e : Events) → AreRowsChanged e ⊎ (rows (effect e index.now) ≡ rows index.now) }
+    ensures same_centres { (e : Events) → centres (effect e index.now) ≡ centres index.now }
 {}
 
 /// A law, and no work. Each block of a chain stays one of the index's, and stands once in the chains: where
@@ -73,6 +74,12 @@ pub fn law_examples()
     ensures one_probe { ivf_answer worked_index (four false true true true) 1 ≡ (unequal_by 1, row_3) ∷ (unequal_by 2, row_4) ∷ [] }
     ensures three_probes { ivf_answer worked_index (four false true true true) 3
         ≡ (unequal_by 1, row_3) ∷ (unequal_by 2, row_2) ∷ (unequal_by 2, row_4) ∷ (unequal_by 3, row_1) ∷ [] }
+
+    // The centres are read before the further row comes, and their block before it or after it.
+    ensures before_it { IsAnswerAt worked_index worked_acts (0 ∷ 0 ∷ []) (four false true true true) 1 ((unequal_by 1, row_3) ∷ (unequal_by 2, row_4) ∷ []) }
+    ensures behind_it { IsAnswerAt worked_index worked_acts (0 ∷ 1 ∷ []) (four false true true true) 1
+        ((unequal_by 1, row_3) ∷ (unequal_by 1, row_5) ∷ (unequal_by 2, row_4) ∷ []) }
+    ensures pages { (centre_pages 4 3 ≡ 1) × (centre_pages 64000 32768 ≡ 32768) }
 
     // A row of 64,000 places takes 8,020 of a page's 8,160 bytes, so one page has one of them.
     ensures long_row { row_need 64000 ≡ 8020 }
