@@ -1,10 +1,13 @@
 //! The state of an HNSW index, what each event makes of it, and which acts a history of it allows.
 //!
 //! The definitions stand in specs/: `Graph` (nodes, live and doomed ones, members of layers), `Places`
-//! (where a new node may stand), `Effect` (what an event changes), `Holding` (gates, and what a desk
-//! knows), `Phases` (how far a vacuum is), `Rules` (one word for each kind of event), `Legal` and
-//! `Sound`. The functions of `law` are laws of those definitions, and do no work; the others decide
-//! their words.
+//! (where a new node may stand), `Effect` (what an event changes), `Knowing` (what a desk knows),
+//! `Cleaning` (what a vacuum has to have cleaned), `Rules` (one word for each kind of event), `Legal` and
+//! `Sound`. The functions of `law` are laws of those definitions, and do no work. The others are the plain
+//! programs beside them: `changes` makes what an event makes of a graph, `places` finds where a new node
+//! stands, `node_rules`, `linking_rules` and `vacuum_rules` decide the rules, over what `knowing` and
+//! `cleaning` find in the graphs of a history, and `audit` judges a whole history. `Course`, `Judging`,
+//! `Deciding`, `Knowable` and `Spots` have the words of their contracts.
 #![tactic(auto)]
 
 mod audit;
