@@ -1,4 +1,5 @@
-ghost use Rattle.std.specs.Prelude.{◌≤◌, ◌<◌};
+ghost use Rattle.std.specs.Prelude.{◌≡◌, ◌≤◌, ◌<◌, None};
+ghost use Rattle.std.specs.FinMap as map;
 
 use super::*;
 use bit_code::read_bits;
@@ -8,7 +9,12 @@ use vec_event::{Act, Event, Gate, Hold, Stage};
 use vec_names::{HeapId, Kind, Listed, Mapped, Ops, Params, Tid};
 
 /// An index that has no node, whose values have 4 places, with m 2.
-fn empty(alloc: Global) -> Graph {
+fn empty(alloc: Global) -> Graph
+    ensures no_nodes { result.nodes ≡ map.empty }
+    ensures no_entry { result.entry ≡ None }
+    ensures one_block { result.blocks ≡ 1 }
+    ensures m_2 { result.params.m ≡ 2 }
+{
     Graph {
         params: Params {
             kind: Kind::Hnsw,

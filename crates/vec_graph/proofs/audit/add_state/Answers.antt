@@ -1,4 +1,4 @@
-use Rattle.std.proofs.Common.{◌≡◌, ◌∷◌, ◌++◌, [], List, sym, subst}
+use Rattle.std.proofs.Common.{◌∷◌, ◌++◌, [], List, sym, subst}
 use Rattle.vec_graph.specs.declared.graph.Graph.{Graph}
 use Rattle.vec_graph.specs.Course.{AreStates}
 use Rattle.vec_graph.proofs.GrowingStates.{states_more}

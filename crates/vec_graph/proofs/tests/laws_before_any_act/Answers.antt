@@ -2,7 +2,7 @@ use Rattle.vec_graph.proofs.Placing.{none_on_empty}
 use Rattle.vec_graph.proofs.tests.laws_before_any_act.Goals as goal
 
 pub law_places-requires : goal.law_places-requires
-law_places-requires c = λ at n is. absurd (none_on_empty c.new.result c.new.ensures at n is)
+law_places-requires c = λ at n is. absurd (none_on_empty c.empty-base.result.nodes c.empty-base.ensures.no_nodes at n is)
 
 pub law_levels-requires-clause-on_blocks : goal.law_levels-requires-clause-on_blocks
-law_levels-requires-clause-on_blocks c = λ at n is. absurd (none_on_empty c.new.result c.new.ensures at n is)
+law_levels-requires-clause-on_blocks c = λ at n is. absurd (none_on_empty c.empty-base.result.nodes c.empty-base.ensures.no_nodes at n is)
