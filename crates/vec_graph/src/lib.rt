@@ -1,10 +1,14 @@
 //! The state of an HNSW index, what each event makes of it, and which acts a history of it allows.
 //!
 //! The definitions stand in specs/: `Graph` (nodes, live and doomed ones, members of layers), `Places`
-//! (where a new node may stand), `Effect` (what an event changes), `Knowing` (what a desk knows), `Cleaning`
-//! (what a vacuum has to have cleaned), `Rules` (one word for each kind of event), `Legal`, `Sound`, and
-//! `Asking` (what the rules ask of a desk's next event). The functions of `law` are laws of those
-//! definitions, and do no work; `audit_hnsw` judges a history, and the others decide words for it.
+//! (where a new node may stand), `Effect` (what an event changes), `Knowing` (what a desk knows),
+//! `Cleaning` (what a vacuum has to have cleaned), `Rules` (one word for each kind of event), `Legal`,
+//! `Sound`, and `Asking` (what the rules ask of a desk's next event). The functions of `law` are laws of
+//! those definitions, and do no work. The others are the plain programs beside them: `changes` makes what an
+//! event makes of a graph, `places` finds where a new node stands, `node_rules`, `linking_rules` and
+//! `vacuum_rules` decide the rules, over what `knowing` and `cleaning` find in the graphs of a history, and
+//! `audit` judges a whole history. `Course`, `Judging`, `Deciding`, `Knowable` and `Spots` have the words of
+//! their contracts.
 #![tactic(auto)]
 
 mod audit;
