@@ -8,8 +8,10 @@ use Rattle.vec_tuples.proofs.FieldLaws.{AreBytes, IsField, got_is, got_not_bad}
 use Rattle.vec_names.specs.declared.params.Params.{Params}
 use Rattle.vec_tuples.specs.declared.element.Element.{Element}
 use Rattle.vec_tuples.specs.declared.element.ElementHead.{ElementHead}
-use Rattle.vec_tuples.specs.Spelling.{IsElement, element_with, element_bytes, head_of_element}
-use Rattle.page_redo.specs.Items.{in_whole, read_at}
+use Rattle.vec_tuples.specs.declared.links.Links.{Links}
+use Rattle.vec_tuples.specs.Spelling.{IsElement, element_with, element_bytes, head_of_element, IsLinks, links_bytes, head_of_links}
+use Rattle.vec_tuples.proofs.EachField.{some_is}
+use Rattle.page_redo.specs.Items.{in_whole, read_at, element_at, links_at}
 
 module _ {A : Type 0} {f : Reader A} {spell : A → List ℕ} {Fits : A → Type 0} {most : ℕ} (law : IsField f spell Fits most) where
   in_whole_got : (r : Read A) (v : A) → in_whole r ≡ Some v → r ≡ Got v []
@@ -54,3 +56,22 @@ pub head_told : (p : Params) (x : List ℕ) (o : Option ElementHead) → IfSome 
     → IfSome o (λ h. (e : Element) × IsElement p e × (x ≡ element_bytes e) × (h ≡ head_of_element e))
 head_told p x None s = s
 head_told p x (Some h) s = (element_with h s.0, s.1, s.2, refl)
+
+-- an element whose head was told stands there
+pub element_there : (p : Params) (c : Content) (off : ℕ) (h : ElementHead) → Some h ≡ option_map head_of_element (element_at p c off)
+    → ((e : Element) → element_at p c off ≡ Some e → IsElement p e × (item_at c.items off ≡ Some (element_bytes e))) → (e : Element) × (item_at c.items off ≡ Some (element_bytes e))
+element_there p c off h told spelled = there (element_at p c off) refl
+  where
+    there : (o : Option Element) → element_at p c off ≡ o → (e : Element) × (item_at c.items off ≡ Some (element_bytes e))
+    there None is = let none = told ∙ ap (option_map head_of_element) is in absurd cc
+    there (Some e) is = (e, (spelled e is).1)
+
+-- and so does a neighbour tuple
+pub links_there : (p : Params) (c : Content) (off : ℕ) (h : Bool × ℕ × ℕ) → Some h ≡ option_map head_of_links (links_at p c off)
+    → ((l : Links) → links_at p c off ≡ Some l → IsLinks p l × (item_at c.items off ≡ Some (links_bytes l)))
+    → (l : Links) × (item_at c.items off ≡ Some (links_bytes l)) × IsLinks p l × (links_at p c off ≡ Some l) × (h ≡ head_of_links l)
+links_there p c off h told spelled = there (links_at p c off) refl
+  where
+    there : (o : Option Links) → links_at p c off ≡ o → (l : Links) × (item_at c.items off ≡ Some (links_bytes l)) × IsLinks p l × (links_at p c off ≡ Some l) × (h ≡ head_of_links l)
+    there None is = let none = told ∙ ap (option_map head_of_links) is in absurd cc
+    there (Some l) is = let s = spelled l is in let same = told ∙ ap (option_map head_of_links) is in (l, s.1, s.0, is, some_is h (head_of_links l) same)

@@ -1,6 +1,6 @@
 //! Changes of one tuple where it stands on a page.
 
-ghost use Rattle.std.specs.Prelude.{◌≡◌, ◌<◌, ◌≤◌, ◌+◌, ◌*◌, ◌^◌, length, slice_set, Some, false};
+ghost use Rattle.std.specs.Prelude.{◌≡◌, ◌<◌, ◌≤◌, ◌+◌, ◌*◌, ◌^◌, length, slice_set, replicate, Some, None, true, false};
 ghost use Rattle.vec_names.specs.declared.tid.Tid.{Tid as Tids};
 ghost use Rattle.page_bytes.specs.Content.{item_at};
 ghost use Rattle.vec_tuples.specs.declared.element.Element.{Element};
@@ -13,6 +13,9 @@ ghost use Rattle.page_redo.specs.Items.{with_item, with_head};
 use page_bytes::{ItemChange, Page};
 use vec_names::Tid;
 use vec_tuples::{ElementHead, Meta, fill_links, fill_meta, set_aim, set_head, set_slot};
+
+/// The most slots of a neighbour tuple.
+const MOST_SLOTS: usize = 1358;
 
 /// An element gets this head.
 #[derive(Drop)]
@@ -73,6 +76,27 @@ impl ItemChange for NewSlots<'_> {
 
     fn change(&self, item: &mut [u8]) {
         fill_links(false, self.version, self.tids, item);
+    }
+}
+
+/// A neighbour tuple becomes that of a deleted element, with as many slots, none of which names a place.
+#[derive(Drop)]
+struct NoSlots {
+    version: u8,
+    count: u16,
+}
+
+impl ItemChange for NoSlots {
+    ghost use Rattle.std.specs.Prelude.{◌≡◌, ◌≤◌, ◌+◌, ◌*◌, length, true, replicate, None};
+    ghost use Rattle.vec_tuples.specs.Spelling.{links_bytes, links_with};
+
+    ghost fits = { λ change old. (change.count ≤ 1358) × (length old ≡ 4 + 6 * change.count) };
+
+    ghost makes = { λ change old new. new ≡ links_bytes (links_with true change.version (replicate change.count None)) };
+
+    fn change(&self, item: &mut [u8]) {
+        let none = [None; MOST_SLOTS];
+        fill_links(true, self.version, &none[..self.count as usize], item);
     }
 }
 
@@ -137,6 +161,15 @@ pub fn put_slots(page: &mut Page, off: u16, version: u8, tids: &[Option<Tid>])
     ensures { page.new ≡ with_item page.old off (links_bytes (links_with false version tids.now)) }
 {
     page.change_item(off, &NewSlots { version, tids });
+}
+
+/// Makes the neighbour tuple at an offset that of a deleted element of this version, with as many slots.
+pub fn put_no_slots(page: &mut Page, off: u16, version: u8, count: u16)
+    requires there { (l : Links) × (item_at page.old.items off ≡ Some (links_bytes l)) × (length l.tids ≡ count) }
+    requires few { count ≤ 1358 }
+    ensures { page.new ≡ with_item page.old off (links_bytes (links_with true version (replicate count None))) }
+{
+    page.change_item(off, &NoSlots { version, count });
 }
 
 /// Puts a meta tuple over that of a page.
