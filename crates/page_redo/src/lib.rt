@@ -11,5 +11,6 @@ mod graph;
 mod heads;
 mod items;
 mod kinds;
+mod put;
 
 pub use fault::RedoFault;
