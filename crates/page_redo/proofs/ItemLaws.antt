@@ -9,9 +9,10 @@ use Rattle.vec_names.specs.declared.params.Params.{Params}
 use Rattle.vec_tuples.specs.declared.element.Element.{Element}
 use Rattle.vec_tuples.specs.declared.element.ElementHead.{ElementHead}
 use Rattle.vec_tuples.specs.declared.links.Links.{Links}
-use Rattle.vec_tuples.specs.Spelling.{IsElement, element_with, element_bytes, head_of_element, IsLinks, links_bytes, head_of_links}
+use Rattle.vec_tuples.specs.declared.centre.CentreTuple.{CentreTuple}
+use Rattle.vec_tuples.specs.Spelling.{IsElement, element_with, element_bytes, head_of_element, IsLinks, links_bytes, head_of_links, IsCentre, centre_bytes, head_of_centre}
 use Rattle.vec_tuples.proofs.EachField.{some_is}
-use Rattle.page_redo.specs.Items.{in_whole, read_at, element_at, links_at}
+use Rattle.page_redo.specs.Items.{in_whole, read_at, element_at, links_at, centre_at}
 
 module _ {A : Type 0} {f : Reader A} {spell : A → List ℕ} {Fits : A → Type 0} {most : ℕ} (law : IsField f spell Fits most) where
   in_whole_got : (r : Read A) (v : A) → in_whole r ≡ Some v → r ≡ Got v []
@@ -75,3 +76,12 @@ links_there p c off h told spelled = there (links_at p c off) refl
     there : (o : Option Links) → links_at p c off ≡ o → (l : Links) × (item_at c.items off ≡ Some (links_bytes l)) × IsLinks p l × (links_at p c off ≡ Some l) × (h ≡ head_of_links l)
     there None is = let none = told ∙ ap (option_map head_of_links) is in absurd cc
     there (Some l) is = let s = spelled l is in let same = told ∙ ap (option_map head_of_links) is in (l, s.1, s.0, is, some_is h (head_of_links l) same)
+
+-- and a list tuple
+pub centre_there : (p : Params) (c : Content) (off : ℕ) (h : ℕ × ℕ) → Some h ≡ option_map head_of_centre (centre_at p c off)
+    → ((l : CentreTuple) → centre_at p c off ≡ Some l → IsCentre p l × (item_at c.items off ≡ Some (centre_bytes l))) → (l : CentreTuple) × (item_at c.items off ≡ Some (centre_bytes l))
+centre_there p c off h told spelled = there (centre_at p c off) refl
+  where
+    there : (o : Option CentreTuple) → centre_at p c off ≡ o → (l : CentreTuple) × (item_at c.items off ≡ Some (centre_bytes l))
+    there None is = let none = told ∙ ap (option_map head_of_centre) is in absurd cc
+    there (Some l) is = (l, (spelled l is).1)

@@ -6,14 +6,15 @@ ghost use Rattle.vec_names.specs.Params.{IsInRange};
 ghost use Rattle.page_bytes.specs.Content.{item_at};
 ghost use Rattle.vec_tuples.specs.declared.element.Element.{Element};
 ghost use Rattle.vec_tuples.specs.declared.links.Links.{Links};
+ghost use Rattle.vec_tuples.specs.declared.centre.CentreTuple.{CentreTuple};
 ghost use Rattle.vec_tuples.specs.declared.meta.Meta.{Meta as MetaTuple};
-ghost use Rattle.vec_tuples.specs.Spelling.{IsElement, IsLinks, IsMeta, element_bytes, links_bytes, meta_bytes, head_of_element, head_of_links};
-ghost use Rattle.vec_tuples.specs.Reading.{element, links};
-ghost use Rattle.page_redo.specs.Items.{in_whole, element_at, links_at, meta_at};
+ghost use Rattle.vec_tuples.specs.Spelling.{IsElement, IsLinks, IsMeta, element_bytes, links_bytes, meta_bytes, centre_bytes, IsCentre, head_of_element, head_of_links, head_of_centre};
+ghost use Rattle.vec_tuples.specs.Reading.{element, links, centre};
+ghost use Rattle.page_redo.specs.Items.{in_whole, element_at, links_at, centre_at, meta_at};
 
 use page_bytes::Page;
 use vec_names::Params;
-use vec_tuples::{ElementHead, Meta, element_head, links_head, read_meta};
+use vec_tuples::{ElementHead, Meta, centre_head, element_head, links_head, read_meta};
 
 /// The head of the element at an offset, if one stands there.
 pub fn head_at(page: &Page, params: &Params, off: u16) -> Option<ElementHead>
@@ -74,4 +75,26 @@ pub fn meta_of(page: &Page) -> Option<Meta>
         },
         None => None,
     }
+}
+
+/// The first block and the aim of the list tuple at an offset, if one stands there.
+pub fn centre_head_at(page: &Page, params: &Params, off: u16) -> Option<(u32, u32)>
+    requires { IsInRange params.now }
+    ensures told { result ≡ option_map head_of_centre (centre_at params.now page.now off) }
+
+    // Its item is the tuple's spelling.
+    ensures spelled { (l : CentreTuple) → centre_at params.now page.now off ≡ Some l → IsCentre params.now l × (item_at page.now.items off ≡ Some (centre_bytes l)) }
+{
+    match page.item(off) {
+        Some(item) => centre_in(item, params),
+        None => None,
+    }
+}
+
+fn centre_in(item: &[u8], params: &Params) -> Option<(u32, u32)>
+    requires { IsInRange params.now }
+    ensures told { result ≡ option_map head_of_centre (in_whole (centre params.now item.now)) }
+    ensures spelled { (l : CentreTuple) → in_whole (centre params.now item.now) ≡ Some l → IsCentre params.now l × (item.now ≡ centre_bytes l) }
+{
+    centre_head(item, params)
 }

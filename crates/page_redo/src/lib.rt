@@ -6,11 +6,14 @@
 #![tactic(auto)]
 
 mod changes;
+mod events;
 mod fault;
 mod graph;
 mod heads;
 mod items;
 mod kinds;
+mod lists;
 mod put;
 
+pub use events::redo;
 pub use fault::RedoFault;

@@ -19,7 +19,7 @@ use vec_names::{HeapId, Params, Tid};
 use vec_tuples::{ElementHead, fill_element, fill_links};
 
 /// The most bytes that an item may have.
-const MOST: usize = 8156;
+pub const MOST: usize = 8156;
 
 /// Adds an item of 1 to 8,156 bytes behind the last one.
 pub fn append(page: &mut Page, x: &[u8]) -> Result<(), RedoFault>
@@ -127,7 +127,13 @@ fn new_head(list_at: Tid, version: u8, level: u8, id: HeapId) -> ElementHead
 }
 
 /// Puts an element over one that may go, or behind the last item.
-fn put_spelled(page: &mut Page, off: u16, may_go: bool, head: &ElementHead, bits: &Bits) -> Result<(), RedoFault>
+fn put_spelled(
+    page: &mut Page,
+    off: u16,
+    may_go: bool,
+    head: &ElementHead,
+    bits: &Bits,
+) -> Result<(), RedoFault>
     ensures { Becomes (put off may_go (element_bytes (element_with head.now bits.now)) page.old) page.old page.new result }
 {
     let mut buffer = [0; MOST];
@@ -138,7 +144,13 @@ fn put_spelled(page: &mut Page, off: u16, may_go: bool, head: &ElementHead, bits
 }
 
 /// Puts a list over one that may go, or behind the last item.
-fn put_slots_spelled(page: &mut Page, off: u16, may_go: bool, version: u8, lists: &[Option<Tid>]) -> Result<(), RedoFault>
+fn put_slots_spelled(
+    page: &mut Page,
+    off: u16,
+    may_go: bool,
+    version: u8,
+    lists: &[Option<Tid>],
+) -> Result<(), RedoFault>
     requires { length lists.now ≤ 1358 }
     ensures { Becomes (put off may_go (links_bytes (links_with false version lists.now)) page.old) page.old page.new result }
 {
@@ -150,7 +162,17 @@ fn put_slots_spelled(page: &mut Page, off: u16, may_go: bool, version: u8, lists
 }
 
 /// The element of a new node, with one id.
-pub fn put_element(page: &mut Page, params: &Params, at: Tid, list_at: Tid, version: u8, level: u8, id: HeapId, bits: &Bits, lists: &[Option<Tid>]) -> Result<(), RedoFault>
+pub fn put_element(
+    page: &mut Page,
+    params: &Params,
+    at: Tid,
+    list_at: Tid,
+    version: u8,
+    level: u8,
+    id: HeapId,
+    bits: &Bits,
+    lists: &[Option<Tid>],
+) -> Result<(), RedoFault>
     requires { IsInRange params.now }
     ensures { Becomes (put_element params.now at list_at version level id bits.now lists.now page.old) page.old page.new result }
 {
@@ -161,11 +183,25 @@ pub fn put_element(page: &mut Page, params: &Params, at: Tid, list_at: Tid, vers
         return Err(RedoFault::Unfit);
     }
     let may_go = is_old_element(page, params, at.off, version);
-    put_spelled(page, at.off, may_go, &new_head(list_at, version, level, id), bits)
+    put_spelled(
+        page,
+        at.off,
+        may_go,
+        &new_head(list_at, version, level, id),
+        bits,
+    )
 }
 
 /// The neighbour tuple of a new node.
-pub fn put_links(page: &mut Page, params: &Params, list_at: Tid, version: u8, level: u8, bits: &Bits, lists: &[Option<Tid>]) -> Result<(), RedoFault>
+pub fn put_links(
+    page: &mut Page,
+    params: &Params,
+    list_at: Tid,
+    version: u8,
+    level: u8,
+    bits: &Bits,
+    lists: &[Option<Tid>],
+) -> Result<(), RedoFault>
     requires { IsInRange params.now }
     ensures { Becomes (put_links params.now list_at version level bits.now lists.now page.old) page.old page.new result }
 {

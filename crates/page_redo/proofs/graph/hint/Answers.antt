@@ -8,4 +8,4 @@ put_meta-requires-clause-meta c =
     let m = c.in-Some.meta in
     let s = (c.in-Some.ensures.spelled m (sym c.in-Some.ensures.told)).0 in
     let graph : is_graph m.params.kind ≡ true = search rules in
-    record { format_low = s.format_low; format_high = s.format_high; params = s.params; entry = s.entry; level = s.level; hint = hint_of_graph m.params.kind c.args.block graph (omega arith) (omega arith) }
+    record { format_low = s.format_low; format_high = s.format_high; params = s.params; entry = s.entry; level = s.level; hint = hint_of_graph m.params.kind c.args.hint graph (omega arith) (omega arith) }

@@ -50,5 +50,5 @@ returns g c =
       y,
       made,
       content_after _ _ _ (c.change_part.ensures.3 ∙ ap (λ (w : ℕ). spliced bytes (w % 2 ^ 15) y) at) (overwritten_at bytes c.args.off y c.self.invariant (record { low = t.low; high = t.high; same = long }) c.change_part.ensures.4)
-      ∙ ap (λ (p : Content). record p { items = slice_set p.items (c.args.off - 1) y }) c.self.view_is,
+          ∙ ap (λ (p : Content). record p { items = slice_set p.items (c.args.off - 1) y }) c.self.view_is,
     )
