@@ -10,3 +10,4 @@ pub mod Grammar
 pub mod Spelled
 pub mod Readers
 pub mod Verdicts
+pub mod ItemChanges

@@ -1,10 +1,12 @@
 //! Numbers within bytes, their low byte first.
 
-ghost use Rattle.std.specs.Prelude.{◌≡◌, ◌+◌, ◌*◌, ◌/◌, ◌%◌, ◌^◌, ◌≤◌, length};
+ghost use Rattle.std.specs.Prelude.{◌≡◌, ◌+◌, ◌*◌, ◌/◌, ◌%◌, ◌^◌, ◌≤◌, ◌<◌, ℕ, List, length, slice_index, take, drop};
 ghost use Rattle.page_bytes.specs.Content.{round8};
 ghost use Rattle.page_bytes.specs.Decoding.{half_at, word_at, long_at, named_by};
 ghost use Rattle.page_bytes.specs.Spelling.{line_pointer};
 ghost use Rattle.page_bytes.specs.Splice.{spliced};
+
+use crate::change::ItemChange;
 
 /// How many bytes a page has.
 pub const SIZE: usize = 8192;
@@ -81,4 +83,14 @@ pub fn put_pointer(bytes: &mut [u8], at: usize, place: u16, len: u32)
 {
     let pointer = u32::from(place) + 0x8000 + len * 0x2_0000;
     put(bytes, at, &pointer.to_le_bytes());
+}
+
+/// Changes so many bytes at a place, where they stand.
+#[tactic(auto, unfolding(crate::specs::Splice::spliced))]
+pub fn change_part<C: ItemChange>(bytes: &mut [u8], at: usize, len: usize, change: &C)
+    requires within { at + len ≤ length bytes.old }
+    requires fits { C.fits change.now (take len (drop at bytes.old)) }
+    ensures { (x : List ℕ) × C.makes change.now (take len (drop at bytes.old)) x × (length x ≡ len) × (bytes.new ≡ spliced bytes.old at x) × ((k : ℕ) → slice_index x k < 2 ^ 8) }
+{
+    change.change(&mut bytes[at..at + len]);
 }

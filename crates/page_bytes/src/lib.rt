@@ -6,12 +6,14 @@
 #![tactic(auto)]
 
 mod bytes;
+mod change;
 mod drops;
 mod fault;
 mod kind;
 mod page;
 mod reading;
 
+pub use change::ItemChange;
 pub use fault::PageFault;
 pub use kind::PageKind;
 pub use page::{Page, read_page};

@@ -1,6 +1,6 @@
 //! A page in its bytes.
 
-ghost use Rattle.std.specs.Prelude.{◌≡◌, ◌+◌, ◌-◌, ◌*◌, ◌<◌, ◌≤◌, ◌↔◌, [], ◌∷◌, ◌++◌, length, slice_set, Some, None, IsNone, IfSome, IfNone, OnSome, IsSomeAnd, IfOk, IfErr, Ok, All, min, take};
+ghost use Rattle.std.specs.Prelude.{◌≡◌, ℕ, List, ◌+◌, ◌-◌, ◌*◌, ◌<◌, ◌≤◌, ◌↔◌, [], ◌∷◌, ◌++◌, length, slice_set, Some, None, IsNone, IfSome, IfNone, OnSome, IsSomeAnd, IfOk, IfErr, Ok, All, min, take};
 ghost use Rattle.std.specs.List.Sorted.{IsStrictlyIncreasing};
 ghost use Rattle.std.specs.Option.{option_copied};
 ghost use Rattle.page_bytes.specs.Content.{IsPage, round8, free_of, item_at, others};
@@ -12,8 +12,9 @@ ghost use Rattle.page_bytes.specs.Splice.{with_item};
 ghost use Rattle.page_bytes.specs.declared.kind.PageKind.TheVariants.{IvfEntries};
 
 use crate::bytes::{
-    KIND, LOWER, NEXT, SIZE, UPPER, half, long, named, put, put_pointer, rounded, word,
+    KIND, LOWER, NEXT, SIZE, UPPER, change_part, half, long, named, put, put_pointer, rounded, word,
 };
+use crate::change::ItemChange;
 use crate::drops::drop_from;
 use crate::fault::PageFault;
 use crate::kind::{PageKind, kind_of, word_of};
@@ -145,6 +146,20 @@ impl Page {
     {
         let old = word(&self.bytes, 20 + 4 * usize::from(off));
         put(&mut self.bytes, (old % 0x8000) as usize, bytes);
+    }
+
+    /// Changes an item that is there, where it stands.
+    pub fn change_item<C: ItemChange>(&mut self, off: u16, change: &C)
+        requires { IsSomeAnd (item_at self.old.items off) (λ x. C.fits change.now x) }
+        ensures { IsSomeAnd (item_at self.old.items off) (λ x. (y : List ℕ) × C.makes change.now x y × (self.new ≡ record self.old { items = slice_set self.old.items (off - 1) y })) }
+    {
+        let pointer = word(&self.bytes, 20 + 4 * usize::from(off));
+        change_part(
+            &mut self.bytes,
+            (pointer % 0x8000) as usize,
+            (pointer / 0x2_0000) as usize,
+            change,
+        );
     }
 
     /// Drops the items at some offsets, which are there and rise. The others close up in their order.

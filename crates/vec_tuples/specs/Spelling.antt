@@ -95,6 +95,10 @@ centre_with first aim bits = record { first = first; aim = aim; bits = bits }
 unfoldable pub centre_bytes : CentreTuple → List ℕ
 centre_bytes c = to_le_bytes w32 c.first ++ (to_le_bytes w32 c.aim ++ (0 ∷ 0 ∷ 0 ∷ 0 ∷ bits_bytes c.bits))
 
+-- what stands before the centre: the first block and the aim
+abbrev pub head_of_centre : CentreTuple → ℕ × ℕ
+head_of_centre c = (c.first, c.aim)
+
 abbrev pub IsCentre : Params → CentreTuple → Type 0
 IsCentre params c = (c.first < 2 ^ 32) × (c.aim < 2 ^ 32) × (length c.bits ≡ params.bits)
 

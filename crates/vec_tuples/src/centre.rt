@@ -1,10 +1,10 @@
 //! The list tuple: a list's chain of blocks and its centre.
 
-ghost use Rattle.std.specs.Prelude.{◌≡◌, ◌≤◌, ◌+◌, ◌/◌, ◌++◌, ◌∷◌, [], length, take, OnOk, OnErr, IfOk, IfErr, MatchResult, List, Bool};
+ghost use Rattle.std.specs.Prelude.{◌≡◌, ◌≤◌, ◌+◌, ◌/◌, ◌++◌, ◌∷◌, [], length, take, Some, OnOk, OnErr, IfOk, IfErr, IfSome, MatchResult, List, Bool};
 ghost use Rattle.std.specs.Int.{w32, to_le_bytes};
 ghost use Rattle.bit_code.specs.Places.{unpacked, Packed};
 ghost use Rattle.vec_names.specs.Params.{IsInRange};
-ghost use Rattle.vec_tuples.specs.Spelling.{centre_bytes, length_word, centre_with, IsCentre};
+ghost use Rattle.vec_tuples.specs.Spelling.{centre_bytes, length_word, centre_with, head_of_centre, IsCentre};
 ghost use Rattle.vec_tuples.specs.Reading.{centre};
 ghost use Rattle.vec_tuples.specs.Answers.{Gives, IsReading, BeginsSome};
 ghost use Rattle.vec_tuples.specs.declared.centre.CentreTuple.{CentreTuple};
@@ -65,6 +65,29 @@ pub fn read_centre(alloc: Global, bytes: &[u8], params: &Params) -> Result<Centr
         Err(refused) => Err(TupleFault::Bad {
             at: (bytes.len() - refused.left) as u16,
         }),
+    }
+}
+
+/// The first block and the aim of the list tuple that these bytes spell under the parameters, all of them. None exactly
+/// where no list tuple has these bytes. It takes no memory.
+pub fn centre_head(bytes: &[u8], params: &Params) -> Option<(u32, u32)>
+    requires { IsInRange params.now }
+
+    // What it tells is so of a list tuple that the bytes spell.
+    ensures spelled { IfSome result (λ head. (c : CentreTuple) × IsCentre params.now c × (bytes.now ≡ centre_bytes c) × (head ≡ head_of_centre c)) }
+
+    // Each list tuple that the bytes spell is told.
+    ensures read { (c : CentreTuple) → IsCentre params.now c → bytes.now ≡ centre_bytes c → result ≡ Some (head_of_centre c) }
+{
+    match centre(*params, bytes) {
+        Ok((first, aim, _, rest)) => {
+            if rest.is_empty() {
+                Some((first, aim))
+            } else {
+                None
+            }
+        }
+        Err(_) => None,
     }
 }
 

@@ -18,7 +18,7 @@ mod rows;
 mod slots;
 mod values;
 
-pub use centre::{CentreTuple, read_centre, set_aim, write_centre};
+pub use centre::{CentreTuple, centre_head, read_centre, set_aim, write_centre};
 pub use element::{
     Element, ElementHead, element_head, fill_element, read_element, set_head, write_element,
 };

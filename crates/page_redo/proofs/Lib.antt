@@ -1,0 +1,4 @@
+pub mod ItemLaws
+pub mod Lengths
+pub mod MetaChanges
+pub mod Rising

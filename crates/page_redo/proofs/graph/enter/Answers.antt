@@ -1,0 +1,13 @@
+use Rattle.std.proofs.Common.{◌≡◌, true, sym, arith, rules}
+use Rattle.page_redo.specs.Items.{is_graph}
+use Rattle.page_redo.specs.Roles.{is_level}
+use Rattle.page_redo.proofs.MetaChanges.{entry_of_graph, level_of_entry}
+use Rattle.page_redo.proofs.graph.enter.Goals as goal
+
+pub put_meta-requires-clause-meta : goal.put_meta-requires-clause-meta
+put_meta-requires-clause-meta c =
+    let m = c.in-Some.meta in
+    let s = (c.in-Some.ensures.spelled m (sym c.in-Some.ensures.told)).0 in
+    let graph : is_graph m.params.kind ≡ true = search rules in
+    let level : is_level c.args.to c.args.level ≡ true = search rules in
+    record { format_low = s.format_low; format_high = s.format_high; params = s.params; entry = entry_of_graph m.params.kind c.args.to graph; level = level_of_entry c.args.to c.args.level level (omega arith); hint = s.hint }

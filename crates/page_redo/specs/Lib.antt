@@ -1,0 +1,3 @@
+pub mod Items
+pub mod Roles
+pub mod Redo

@@ -1,0 +1,19 @@
+//! Redo of one page: what an event does to the page that it touches.
+//!
+//! An event has a role at each place that it names. A role changes one tuple of a page, adds one, drops some or links
+//! the page to another, and it needs a page that allows this. Live changes, recovery and standbys change pages through
+//! this one call, so that all of them make the same pages. Nothing here takes memory.
+#![tactic(auto)]
+
+mod changes;
+mod events;
+mod fault;
+mod graph;
+mod heads;
+mod items;
+mod kinds;
+mod lists;
+mod put;
+
+pub use events::redo;
+pub use fault::RedoFault;

@@ -1,0 +1,216 @@
+//! The roles of a new node: its element and its neighbour tuple, at new places or over those of a deleted node.
+
+ghost use Rattle.std.specs.Prelude.{◌≡◌, ◌<◌, ◌≤◌, ◌+◌, ◌*◌, ◌/◌, ◌&&◌, ◌==◌, ◌∷◌, [], false, nat_le, length, List, Bool};
+ghost use Rattle.std.specs.Option.{option_map};
+ghost use Rattle.vec_names.specs.Params.{IsInRange};
+ghost use Rattle.page_bytes.specs.Content.{item_at};
+ghost use Rattle.vec_tuples.specs.Spelling.{element_bytes, element_with, head_with, links_bytes, links_with};
+ghost use Rattle.page_redo.specs.Items.{added, element_at, links_at};
+ghost use Rattle.page_redo.specs.Roles.{if_so, put, put_element, put_links, is_node, is_old_element, are_old_links};
+ghost use Rattle.page_redo.specs.Redo.{Becomes};
+
+use crate::fault::RedoFault;
+use crate::items::{head_at, links_head_at};
+use crate::kinds::is_on_graph;
+use arrayvec::ArrayVec;
+use bit_code::Bits;
+use page_bytes::Page;
+use vec_names::{HeapId, Params, Tid};
+use vec_tuples::{ElementHead, fill_element, fill_links};
+
+/// The most bytes that an item may have.
+pub const MOST: usize = 8156;
+
+/// Adds an item of 1 to 8,156 bytes behind the last one.
+pub fn append(page: &mut Page, x: &[u8]) -> Result<(), RedoFault>
+    requires some { 0 < length x.now }
+    requires small { length x.now ≤ 8156 }
+    ensures { Becomes (added x.now page.old) page.old page.new result }
+{
+    match page.add_item(x) {
+        Some(_) => Ok(()),
+        None => Err(RedoFault::Unfit),
+    }
+}
+
+/// How many bytes the item at an offset has, if there is one.
+fn item_long(page: &Page, off: u16) -> Option<usize>
+    ensures { result ≡ option_map (λ x. length x) (item_at page.now.items off) }
+{
+    match page.item(off) {
+        Some(item) => Some(item.len()),
+        None => None,
+    }
+}
+
+/// Puts an item of 1 to 8,156 bytes over the one at an offset, which must be as long, and may go; or behind the last
+/// one, where the offset is the next.
+fn put_item(page: &mut Page, off: u16, may_go: bool, x: &[u8]) -> Result<(), RedoFault>
+    requires some { 0 < length x.now }
+    requires small { length x.now ≤ 8156 }
+    ensures { Becomes (put off may_go x.now page.old) page.old page.new result }
+{
+    let Some(long) = item_long(page, off) else {
+        return put_behind(page, off, x);
+    };
+    if !may_go || long != x.len() {
+        return Err(RedoFault::Unfit);
+    }
+    page.overwrite(off, x);
+    Ok(())
+}
+
+fn put_behind(page: &mut Page, off: u16, x: &[u8]) -> Result<(), RedoFault>
+    requires some { 0 < length x.now }
+    requires small { length x.now ≤ 8156 }
+    ensures { Becomes (if_so (off == length page.old.items + 1) (added x.now page.old)) page.old page.new result }
+{
+    if off == 0 || off - 1 != page.count() {
+        return Err(RedoFault::Unfit);
+    }
+    append(page, x)
+}
+
+/// Whether a node of this version and level, with so many places and slots, has tuples.
+fn is_node(params: &Params, version: u8, level: u8, bits: &Bits, lists: &[Option<Tid>]) -> bool
+    requires { IsInRange params.now }
+    ensures { result ≡ is_node params.now version level bits.now lists.now }
+{
+    version >= 1
+        && bits.count() == params.bits
+        && lists.len() == slots_of(level, params.m)
+        && lists.len() <= 1358
+}
+
+/// How many slots a node of this level has.
+fn slots_of(level: u8, m: u16) -> usize
+    ensures { result ≡ (level + 2) * m }
+{
+    (usize::from(level) + 2) * usize::from(m)
+}
+
+/// Whether the element of a deleted node of this version stands at an offset.
+fn is_old_element(page: &Page, params: &Params, off: u16, version: u8) -> bool
+    requires { IsInRange params.now }
+    ensures { result ≡ is_old_element version (element_at params.now page.now off) }
+{
+    match head_at(page, params, off) {
+        Some(head) => head.deleted && head.version == version,
+        None => false,
+    }
+}
+
+/// Whether the neighbour tuple of a deleted node of this version stands at an offset.
+fn are_old_links(page: &Page, params: &Params, off: u16, version: u8) -> bool
+    requires { IsInRange params.now }
+    ensures { result ≡ are_old_links version (links_at params.now page.now off) }
+{
+    match links_head_at(page, params, off) {
+        Some((deleted, found, _)) => deleted && found == version,
+        None => false,
+    }
+}
+
+/// The head of a new element, which has one id.
+fn new_head(list_at: Tid, version: u8, level: u8, id: HeapId) -> ElementHead
+    ensures { result ≡ head_with level false version (id ∷ []) list_at }
+{
+    let mut ids = ArrayVec::new();
+    ids.push(id);
+    ElementHead {
+        level,
+        deleted: false,
+        version,
+        ids,
+        list_at,
+    }
+}
+
+/// Puts an element over one that may go, or behind the last item.
+fn put_spelled(
+    page: &mut Page,
+    off: u16,
+    may_go: bool,
+    head: &ElementHead,
+    bits: &Bits,
+) -> Result<(), RedoFault>
+    ensures { Becomes (put off may_go (element_bytes (element_with head.now bits.now)) page.old) page.old page.new result }
+{
+    let mut buffer = [0; MOST];
+    let long = 80 + (bits.count() as usize + 7) / 8;
+    let item = &mut buffer[..long];
+    fill_element(head, bits, item);
+    put_item(page, off, may_go, item)
+}
+
+/// Puts a list over one that may go, or behind the last item.
+fn put_slots_spelled(
+    page: &mut Page,
+    off: u16,
+    may_go: bool,
+    version: u8,
+    lists: &[Option<Tid>],
+) -> Result<(), RedoFault>
+    requires { length lists.now ≤ 1358 }
+    ensures { Becomes (put off may_go (links_bytes (links_with false version lists.now)) page.old) page.old page.new result }
+{
+    let mut buffer = [0; MOST];
+    let long = 4 + 6 * lists.len();
+    let item = &mut buffer[..long];
+    fill_links(false, version, lists, item);
+    put_item(page, off, may_go, item)
+}
+
+/// The element of a new node, with one id.
+pub fn put_element(
+    page: &mut Page,
+    params: &Params,
+    at: Tid,
+    list_at: Tid,
+    version: u8,
+    level: u8,
+    id: HeapId,
+    bits: &Bits,
+    lists: &[Option<Tid>],
+) -> Result<(), RedoFault>
+    requires { IsInRange params.now }
+    ensures { Becomes (put_element params.now at list_at version level id bits.now lists.now page.old) page.old page.new result }
+{
+    if !is_on_graph(page, params) {
+        return Err(RedoFault::Unfit);
+    }
+    if !is_node(params, version, level, bits, lists) {
+        return Err(RedoFault::Unfit);
+    }
+    let may_go = is_old_element(page, params, at.off, version);
+    put_spelled(
+        page,
+        at.off,
+        may_go,
+        &new_head(list_at, version, level, id),
+        bits,
+    )
+}
+
+/// The neighbour tuple of a new node.
+pub fn put_links(
+    page: &mut Page,
+    params: &Params,
+    list_at: Tid,
+    version: u8,
+    level: u8,
+    bits: &Bits,
+    lists: &[Option<Tid>],
+) -> Result<(), RedoFault>
+    requires { IsInRange params.now }
+    ensures { Becomes (put_links params.now list_at version level bits.now lists.now page.old) page.old page.new result }
+{
+    if !is_on_graph(page, params) {
+        return Err(RedoFault::Unfit);
+    }
+    if !is_node(params, version, level, bits, lists) {
+        return Err(RedoFault::Unfit);
+    }
+    let may_go = are_old_links(page, params, list_at.off, version);
+    put_slots_spelled(page, list_at.off, may_go, version, lists)
+}
