@@ -500,3 +500,25 @@ fn a_full_index_takes_no_new_block(rt: HostRuntime) -> Result<(), Fail> {
     assert!(rt; full.new_place(0).is_some());
     Ok(())
 }
+
+// The second node of an index of these parameters stands behind the first one, on the same block.
+#[test]
+fn a_graph_by_its_calls(rt: HostRuntime) -> Result<(), Fail> {
+    let mut graph = empty(rt.alloc());
+    let first = put(rt.alloc(), 1, 1, "0000", None, None)?;
+    graph.apply(255, &first, rt.alloc())?;
+    let copy = graph.try_clone(rt.alloc())?;
+    let second = Place {
+        at: tid(3),
+        list_at: tid(4),
+        version: 1,
+    };
+    assert_eq!(rt; copy.place_on(1, 0), Some(second));
+    assert!(rt; live_at(&copy, tid(1), 0));
+    assert!(rt; !doomed_at(&copy, tid(1)));
+    let node = copy.nodes.get(tid(1)).ok_or("no node")?;
+    let twin = node.try_clone(rt.alloc())?;
+    assert!(rt; is_live(&twin));
+    assert!(rt; !is_doomed(&twin));
+    Ok(())
+}
