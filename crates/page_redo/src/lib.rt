@@ -17,3 +17,6 @@ mod put;
 
 pub use events::redo;
 pub use fault::RedoFault;
+
+#[cfg(test)]
+mod tests;
