@@ -1,4 +1,29 @@
-use crate::{Page, PageKind, read_page};
+use crate::{ItemChange, Page, PageKind, read_page};
+
+/// Each byte of an item becomes this one.
+#[derive(Drop)]
+struct Fill(u8);
+
+impl ItemChange for Fill {
+    ghost use Rattle.std.specs.Prelude.{◌≡◌, length, replicate};
+
+    ghost fits = { λ change old. Unit {0} };
+
+    ghost makes = { λ change old new. new ≡ replicate (length old) change.0 };
+
+    fn change(&self, item: &mut [u8]) {
+        item.fill(self.0);
+    }
+}
+
+#[test]
+fn an_item_is_changed_where_it_stands(rt: HostRuntime) {
+    let mut page = two_items();
+    assert!(rt; page.item(2) == Some([1, 2, 3, 4, 5].as_slice()));
+    page.change_item(2, &Fill(7));
+    assert!(rt; page.item(2) == Some([7, 7, 7, 7, 7].as_slice()));
+    assert!(rt; page.item(1) == page.bytes().get(8096..8177) && page.number() == 0x0102_0304);
+}
 
 // A page of two items: 81 bytes at 8,096 and 5 bytes at 8,088.
 fn two_items() -> Page {

@@ -1,10 +1,10 @@
 -- What stands at an offset, as the calls that look at a tuple tell it.
-use Rattle.std.proofs.Common.{◌≡◌, ℕ, Bool, List, [], ◌∷◌, ◌++◌, Option, Some, None, IfSome, refl, sym, ap, ◌∙◌}
+use Rattle.std.proofs.Common.{◌≡◌, ℕ, Bool, List, [], ◌∷◌, Option, Some, None, IfSome, refl, sym, ap, ◌∙◌}
 use Rattle.std.proofs.lemmas.List.{append-nil}
 use Rattle.std.specs.Option.{option_map, option_and_then}
 use Rattle.page_bytes.specs.Content.{Content, item_at}
 use Rattle.vec_tuples.specs.Reading.{Read, Got, Bad, Reader}
-use Rattle.vec_tuples.proofs.FieldLaws.{AreBytes, IsField, got_is, got_not_bad}
+use Rattle.vec_tuples.proofs.FieldLaws.{AreBytes, IsField}
 use Rattle.vec_names.specs.declared.params.Params.{Params}
 use Rattle.vec_tuples.specs.declared.element.Element.{Element}
 use Rattle.vec_tuples.specs.declared.element.ElementHead.{ElementHead}

@@ -1,5 +1,5 @@
 -- How long the tuples are that are changed where they stand.
-use Rattle.std.proofs.Common.{◌≡◌, ℕ, ◌+◌, ◌*◌, ◌/◌, ◌<◌, ◌≤◌, List, Bool, ◌∷◌, ◌++◌, length, refl, ap, ◌∙◌, arith}
+use Rattle.std.proofs.Common.{◌≡◌, ℕ, ◌≤◌, List, Bool, ◌∷◌, ◌++◌, length, refl, arith}
 use Rattle.std.specs.Int.{w32, to_le_bytes}
 use Rattle.std.proofs.lemmas.List.{length-append}
 use Rattle.bit_code.specs.Places.{packed}
@@ -7,7 +7,7 @@ use Rattle.vec_names.specs.Pointer.{tid_option_bytes}
 use Rattle.vec_tuples.specs.declared.element.Element.{Element}
 use Rattle.vec_tuples.specs.declared.centre.CentreTuple.{CentreTuple}
 use Rattle.vec_tuples.specs.declared.meta.Meta.{Meta}
-use Rattle.vec_tuples.specs.Spelling.{element_bytes, bits_bytes, length_word, head_of_element, head_bytes, centre_bytes, meta_bytes, IsMeta}
+use Rattle.vec_tuples.specs.Spelling.{element_bytes, bits_bytes, length_word, head_of_element, head_bytes, centre_bytes, meta_bytes}
 use Rattle.vec_tuples.proofs.EachField.{length-tid_option_bytes}
 use Rattle.vec_tuples.proofs.ElementLaws.{length-head_bytes}
 

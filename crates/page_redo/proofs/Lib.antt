@@ -2,3 +2,5 @@ pub mod ItemLaws
 pub mod Lengths
 pub mod MetaChanges
 pub mod Rising
+pub mod Elsewhere
+pub mod Others

@@ -1,5 +1,5 @@
 -- What stands at an offset of a page, and pages with another item there.
-use Rattle.std.specs.Prelude.{ℕ, ◌+◌, ◌-◌, ◌≤◌, nat_le, List, [], ◌∷◌, ◌++◌, length, slice_set, Bool, true, false, Option, Some, None, if◌then◌else◌}
+use Rattle.std.specs.Prelude.{ℕ, ◌+◌, ◌-◌, nat_le, List, [], ◌∷◌, ◌++◌, length, slice_set, Bool, true, false, Option, Some, None, if◌then◌else◌}
 use Rattle.std.specs.Option.{option_map, option_and_then}
 use Rattle.vec_names.specs.declared.params.Kind.{Kind}
 use Rattle.vec_names.specs.declared.params.Kind.TheVariants.{Hnsw, Ivf}

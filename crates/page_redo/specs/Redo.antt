@@ -1,5 +1,5 @@
 -- What an event makes of the page of a block.
-use Rattle.std.specs.Prelude.{◌≡◌, ℕ, ◌==◌, if◌then◌else◌, Option, Some, None, Result, Ok, Err}
+use Rattle.std.specs.Prelude.{◌≡◌, ℕ, ◌==◌, if◌then◌else◌, List, [], ◌∷◌, Option, Some, None, Result, Ok, Err}
 use Rattle.std.specs.Option.{option_map, option_and_then}
 use Rattle.vec_names.specs.declared.params.Params.{Params}
 use Rattle.vec_event.specs.declared.event.Event.{Event}
@@ -7,7 +7,7 @@ use Rattle.vec_event.specs.declared.event.Event.TheVariants.{Put, Join, Link, Re
 use Rattle.page_bytes.specs.Content.{Content}
 use Rattle.page_redo.specs.declared.fault.RedoFault.{RedoFault}
 use Rattle.page_redo.specs.Items.{head_changed, links_changed, meta_changed}
-use Rattle.page_redo.specs.Roles.{Role, on_graph, joined, dropped, marked, linked, relisted, emptied, put_element, put_links, entered, hinted, on_meta, entry_added, grown, chained, entries_dropped, list_block, aimed}
+use Rattle.page_redo.specs.Roles.{Role, on_graph, joined, dropped, marked, linked, relisted, emptied, put_element, put_links, entered, hinted, on_meta, entry_added, grown, chained, entries_dropped, list_block, list_offset, aimed}
 
 -- an event that touches one block
 abbrev pub at_one : ℕ → Role → ℕ → Role
@@ -50,3 +50,39 @@ redone event p wrap number block c = option_map (numbered number) (changed event
 abbrev pub Becomes : Option Content → Content → Content → Result (Unit {0}) RedoFault → Type 0
 Becomes after old new (Ok done) = after ≡ Some new
 Becomes after old new (Err fault) = (after ≡ None) × (new ≡ old)
+
+-- ---- what an event names
+
+-- the blocks that an event touches
+abbrev pub touched : Event → Params → List ℕ
+touched (Put at list_at version level id bits lists) p = at.block ∷ list_at.block ∷ []
+touched (Join at version id) p = at.block ∷ []
+touched (Link at list_at version slot to) p = list_at.block ∷ []
+touched (Relist at list_at version lists) p = list_at.block ∷ []
+touched (Drop at version gone) p = at.block ∷ []
+touched (Mark at list_at version) p = at.block ∷ list_at.block ∷ []
+touched (Entry to level) p = 0 ∷ []
+touched (Hint hint) p = 0 ∷ []
+touched (IvfAdd to id bits) p = to ∷ []
+touched (IvfGrow list last new id bits) p = new ∷ last ∷ []
+touched (IvfDrop of gone) p = of ∷ []
+touched (IvfHint list aim) p = list_block p list ∷ []
+touched _ p = []
+
+-- the items that it puts or changes, each by its block and its offset
+abbrev pub named : Event → Params → List (ℕ × ℕ)
+named (Put at list_at version level id bits lists) p = (at.block, at.off) ∷ (list_at.block, list_at.off) ∷ []
+named (Join at version id) p = (at.block, at.off) ∷ []
+named (Link at list_at version slot to) p = (list_at.block, list_at.off) ∷ []
+named (Relist at list_at version lists) p = (list_at.block, list_at.off) ∷ []
+named (Drop at version gone) p = (at.block, at.off) ∷ []
+named (Mark at list_at version) p = (at.block, at.off) ∷ (list_at.block, list_at.off) ∷ []
+named (Entry to level) p = (0, 1) ∷ []
+named (Hint hint) p = (0, 1) ∷ []
+named (IvfHint list aim) p = (list_block p list, list_offset p list) ∷ []
+named _ p = []
+
+-- the event by which entries go, so that others close up
+abbrev pub AreEntriesDropped : Event → Type 0
+AreEntriesDropped (IvfDrop of gone) = Unit {0}
+AreEntriesDropped _ = ⊥

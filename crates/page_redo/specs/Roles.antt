@@ -1,19 +1,17 @@
 -- The role of an event at a place that it names: what it makes of the page there. There is nothing where the page lacks
 -- what the event needs.
-use Rattle.std.specs.Prelude.{ℕ, zero, suc, ◌+◌, ◌-◌, ◌*◌, ◌/◌, ◌%◌, ◌^◌, ◌≤◌, ◌==◌, ◌&&◌, not, nat_le, nat_lt, List, [], ◌∷◌, ◌++◌, length, replicate, slice_set, Bool, true, false, Option, Some, None, if◌then◌else◌}
+use Rattle.std.specs.Prelude.{ℕ, ◌+◌, ◌*◌, ◌/◌, ◌%◌, ◌^◌, ◌==◌, ◌&&◌, not, nat_le, nat_lt, List, [], ◌∷◌, ◌++◌, length, replicate, slice_set, Bool, true, false, Option, Some, None, if◌then◌else◌}
 use Rattle.vec_names.specs.declared.tid.Tid.{Tid}
 use Rattle.vec_names.specs.declared.heap_id.HeapId.{HeapId}
 use Rattle.vec_names.specs.declared.params.Params.{Params}
-use Rattle.page_bytes.specs.declared.kind.PageKind.TheVariants as pages
 use Rattle.page_bytes.specs.Content.{Content, item_at, others, round8}
 use Rattle.vec_tuples.specs.declared.meta.Meta.{Meta}
 use Rattle.vec_tuples.specs.declared.element.Element.{Element}
 use Rattle.vec_tuples.specs.declared.element.ElementHead.{ElementHead}
 use Rattle.vec_tuples.specs.declared.links.Links.{Links}
-use Rattle.vec_tuples.specs.declared.centre.CentreTuple.{CentreTuple}
 use Rattle.vec_tuples.specs.Spelling.{element_bytes, element_with, head_with, links_bytes, links_with, entry_bytes, row_with, centre_with}
 use Rattle.vec_graph.specs.Effect.{kept, next_version}
-use Rattle.page_redo.specs.Items.{element_at, links_at, with_item, added, head_changed, links_changed, centre_changed, meta_changed, is_graph, is_meta_page, is_graph_page, is_lists_page, is_entries_page}
+use Rattle.page_redo.specs.Items.{element_at, links_at, with_item, added, centre_changed, is_graph, is_meta_page, is_graph_page, is_lists_page, is_entries_page}
 
 abbrev pub Role : Type 0
 Role = Content → Option Content

@@ -12,8 +12,13 @@ mod graph;
 mod heads;
 mod items;
 mod kinds;
+mod law;
 mod lists;
 mod put;
 
 pub use events::redo;
 pub use fault::RedoFault;
+pub use law::{law_elsewhere, law_others};
+
+#[cfg(test)]
+mod tests;

@@ -161,6 +161,8 @@ fn entries_and_centres_there_and_back(rt: HostRuntime) -> Result<(), TupleFault>
     let centre = read_centre(rt.alloc(), &CENTRE, &params)?;
     assert!(rt; packed(&CENTRE) == [0x30].as_slice());
     assert!(rt; centre.first == 3 && centre.aim == 5 && centre.bits.get(3));
+    assert!(rt; centre_head(&CENTRE, &params) == Some((3, 5)));
+    assert!(rt; centre_head(&ENTRY, &params).is_none());
     let mut again = Vec::new(rt.alloc());
     write_centre(&centre, &mut again)?;
     assert!(rt; again.as_slice() == CENTRE.as_slice());

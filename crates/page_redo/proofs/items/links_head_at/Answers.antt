@@ -1,4 +1,4 @@
-use Rattle.std.proofs.Common.{◌≡◌, Some, List, ℕ, sym, ap, ◌∙◌}
+use Rattle.std.proofs.Common.{Some, List, ℕ, sym, ap, ◌∙◌}
 use Rattle.std.specs.Option.{option_map, option_and_then}
 use Rattle.vec_tuples.specs.Spelling.{head_of_links}
 use Rattle.vec_tuples.specs.Reading.{links}

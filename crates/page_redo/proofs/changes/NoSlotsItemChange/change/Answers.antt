@@ -1,4 +1,4 @@
-use Rattle.std.proofs.Common.{true, None, List, Option, ap, ◌∙◌, arith}
+use Rattle.std.proofs.Common.{true, None, List, Option, ap, ◌∙◌}
 use Rattle.std.proofs.lemmas.List.{take-replicate}
 use Rattle.vec_names.specs.declared.tid.Tid.{Tid}
 use Rattle.vec_tuples.specs.Spelling.{links_bytes, links_with}
