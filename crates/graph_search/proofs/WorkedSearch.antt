@@ -62,5 +62,5 @@ module _ (a b c : Stand) (ab : tid_cmp a.at b.at ≡ Less) (ac : tid_cmp a.at c.
     course = (first, (second, (third, tt)));
     halted = rw (ab, ac, bc, turned a.at b.at ab, turned a.at c.at ac, turned b.at c.at bc, itself a.at, itself b.at, itself c.at) refl;
     reads_are = refl;
-    result_is = rw (ac, bc, turned a.at b.at ab, turned a.at c.at ac, turned b.at c.at bc, itself a.at, itself b.at, itself c.at) refl;
+    result_is = rw (turned a.at b.at ab) refl;
   }
