@@ -39,7 +39,6 @@ fn laws_before_any_act(rt: HostRuntime) {
     let acts: [Act; 0] = [];
     law_cut(&base, &acts);
     law_alone(&base, &acts);
-    law_asked(&base, &acts);
     law_entries(&base, &acts);
     law_places(&base, &acts);
     law_levels(&base, &acts);
