@@ -1,5 +1,5 @@
 #!/usr/bin/env bash
-# How long `audit_hnsw` takes over a history of fifty inserts. Not part of the gate.
+# How long `audit_hnsw` takes over a history of 55 inserts. Not part of the gate.
 # usage: bench/judge.sh, at the top of the repository; it needs some minutes the first time.
 set -eu
 top="$(pwd)"
@@ -134,7 +134,7 @@ CRATES
 program="$work/crates/judge_bench/out/judge_bench"
 for rounds in 0 1 10; do
     start=$(date +%s.%N)
-    acts=$("$program" 50 "$rounds")
+    acts=$("$program" 55 "$rounds")
     end=$(date +%s.%N)
     echo "$acts acts judged $rounds times: $(echo "$end - $start" | bc) seconds"
 done
