@@ -1,17 +1,16 @@
 -- What the search of one layer gives.
-use Rattle.std.proofs.Common.{◌≡◌, ◌≢◌, ℕ, zero, suc, ◌<◌, ◌≤◌, Bool, true, false, cond, not, ◌&&◌, List, [], ◌∷◌, take, filter, length, slice_get, Some, refl, sym, ap, subst, ◌∙◌, arith}
+use Rattle.std.proofs.Common.{◌≡◌, ℕ, ◌<◌, Bool, true, false, cond, not, ◌&&◌, List, [], ◌∷◌, filter, slice_get, Some, refl, sym, ap, ◌∙◌}
 use Rattle.std.specs.Cmp.{IsStrictWeakOrder, IsTotalOrder}
-use Rattle.std.specs.Ordering.{is_lt}
 use Rattle.std.proofs.lemmas.Cmp.{on_total, then_total}
 use Rattle.std.proofs.lemmas.List.MinMax.{ranks_by}
-use Rattle.std.proofs.lemmas.Option.{same_Some, none-some}
-use Rattle.std.proofs.lemmas.List.{length-take}
 use Rattle.vec_names.specs.Order.{tid_cmp_total}
-use Rattle.bit_dist.specs.Ranking.{placed, ranked}
+use Rattle.bit_dist.specs.Ranking.{ranked}
 use Rattle.bit_dist.specs.Orders.{dist_cmp_total}
-use Rattle.bit_dist.proofs.Ranks.{Rises, rises_ranked, rises_at}
+use Rattle.bit_dist.proofs.Ranks.{rises_ranked, rises_at}
 use Rattle.neighbour_pick.specs.declared.found.Found.{Found}
-use Rattle.neighbour_pick.specs.Order.{Candidate, candidate_of, candidate_cmp, is_nearer}
+use Rattle.neighbour_pick.proofs.Choosing.{All_of, ranked_all, got_all}
+use Rattle.neighbour_pick.proofs.Selecting.{in_whole}
+use Rattle.neighbour_pick.specs.Order.{Candidate, candidate_of, candidate_cmp}
 use Rattle.graph_search.specs.Reads.{Look, Answer}
 use Rattle.graph_search.specs.Search.{is_before, is_live, is_among, known, found_in, only_ef, Start, LayerSearch}
 
@@ -25,31 +24,6 @@ before_strict = ranks_by candidates_total candidate_of
 
 -- ---- a property of all
 
-All_of : {X : Type 0} → (X → Type 0) → List X → Type 0
-All_of P [] = Unit {0}
-All_of P (x ∷ xs) = P x × All_of P xs
-
-module _ {X : Type 0} (P : X → Type 0) where
-  placed_all : (lt : X → X → Bool) (x : X) (xs : List X) → P x → All_of P xs → All_of P (placed lt x xs)
-  unfolding All_of
-  placed_all lt x [] p q = (p, tt)
-  placed_all lt x (y ∷ ys) p q =
-      elim (lt y x) as (λ b. All_of P (cond b (y ∷ placed lt x ys) (x ∷ y ∷ ys))) [
-        | true ↦ (q.0, placed_all lt x ys p q.1)
-        | false ↦ (p, q)
-      ]
-
-  ranked_all : (lt : X → X → Bool) (xs : List X) → All_of P xs → All_of P (ranked lt xs)
-  unfolding All_of
-  ranked_all lt [] p = tt
-  ranked_all lt (x ∷ xs) p = placed_all lt x (ranked lt xs) p.0 (ranked_all lt xs p.1)
-
-  got_all : (xs : List X) (i : ℕ) (x : X) → All_of P xs → slice_get xs i ≡ Some x → P x
-  unfolding All_of
-  got_all [] i x p e = absurd (none-some x e)
-  got_all (y ∷ ys) zero x p e = subst P (same_Some y x e) p.0
-  got_all (y ∷ ys) (suc i) x p e = got_all ys i x p.1 e
-
 filter_all : {X : Type 0} (p : X → Bool) (xs : List X) → All_of (λ x. p x ≡ true) (filter p xs)
 unfolding All_of
 filter_all p [] = tt
@@ -58,12 +32,6 @@ filter_all p (x ∷ xs) =
       | true ↦ λ e. (e, filter_all p xs)
       | false ↦ λ e. filter_all p xs
     ] refl
-
-in_whole : {X : Type 0} (n : ℕ) (xs : List X) (j : ℕ) (x : X) → slice_get (take n xs) j ≡ Some x → slice_get xs j ≡ Some x
-in_whole zero xs j x e = absurd (none-some x e)
-in_whole (suc n) [] j x e = e
-in_whole (suc n) (y ∷ ys) zero x e = e
-in_whole (suc n) (y ∷ ys) (suc j) x e = in_whole n ys j x e
 
 both_first : (a b : Bool) → (a && b) ≡ true → a ≡ true
 both_first true b e = refl

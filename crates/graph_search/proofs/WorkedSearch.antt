@@ -1,12 +1,12 @@
 -- The worked search, turn by turn.
-use Rattle.std.proofs.Common.{◌≡◌, ℕ, true, false, List, [], ◌∷◌, refl, sym, ap, ◌∙◌, arith}
+use Rattle.std.proofs.Common.{◌≡◌, ℕ, [], ◌∷◌, refl, ap, ◌∙◌, arith}
 use Rattle.std.specs.declared.cmp.Ordering.TheVariants.{Less, Equal, Greater}
 use Rattle.std.specs.Ordering.{nat_cmp, ordering_reverse}
 use Rattle.std.proofs.lemmas.Bool.Decides.{nat_tests}
 use Rattle.vec_names.specs.declared.tid.Tid.{Tid}
 use Rattle.vec_names.specs.Order.{tid_cmp, tid_cmp_total}
 use Rattle.bit_code.specs.Places.{tally}
-use Rattle.graph_search.specs.Search.{Turn, LayerSearch, IsTurn, IsCourse, only_ef, open_in, is_halted, course_reads}
+use Rattle.graph_search.specs.Search.{Turn, LayerSearch, IsTurn, only_ef, course_reads}
 use Rattle.graph_search.specs.Examples.{Stand, zeros, last_two, last_three, element_at, told_of, naming, from_first, three_turns}
 
 self : (n : ℕ) → nat_cmp n n ≡ Equal

@@ -1,5 +1,5 @@
 -- A worked search: three nodes of the values 0000, 0011 and 0111, each of which names the other two, and the query 0001.
-use Rattle.std.specs.Prelude.{ℕ, Bool, true, false, List, [], ◌∷◌, Option, Some, None}
+use Rattle.std.specs.Prelude.{Bool, true, false, List, [], ◌∷◌, Some, None}
 use Rattle.vec_names.specs.declared.tid.Tid.{Tid}
 use Rattle.vec_names.specs.declared.heap_id.HeapId.{HeapId}
 use Rattle.vec_names.specs.declared.params.Ops.TheVariants.{Hamming}

@@ -1,5 +1,5 @@
 -- What an insert does, in order: the lists that a new node gets, and the links back to it. After the HNSW paper's Algorithm 1.
-use Rattle.std.specs.Prelude.{◌≡◌, ℕ, zero, suc, ◌+◌, ◌-◌, ◌*◌, ◌==◌, ◌&&◌, not, nat_lt, nat_le, min, ⊤, ◌⊎◌, if◌then◌else◌, Bool, true, false, List, [], ◌∷◌, ◌++◌, map, filter, length, replicate, slice_get, Option, Some, None}
+use Rattle.std.specs.Prelude.{◌≡◌, ℕ, zero, suc, ◌+◌, ◌-◌, ◌*◌, ◌==◌, ◌&&◌, not, nat_lt, nat_le, min, ⊤, ◌⊎◌, if◌then◌else◌, Bool, false, List, [], ◌∷◌, ◌++◌, map, filter, length, replicate, slice_get, Option, Some, None}
 use Rattle.std.specs.List.{filter_map}
 use Rattle.std.specs.Ordering.{eq_by_cmp}
 use Rattle.vec_names.specs.declared.tid.Tid.{Tid}
@@ -13,7 +13,7 @@ use Rattle.neighbour_pick.specs.declared.found.SlotSeen.{SlotSeen}
 use Rattle.neighbour_pick.specs.Order.{Candidate, candidate_of}
 use Rattle.neighbour_pick.specs.Selection.{picked}
 use Rattle.neighbour_pick.specs.Slots.{slot_of}
-use Rattle.graph_search.specs.Reads.{Look, AtNode, AtList, Answer, Gone, OfMeta, OfNode, OfList, OfPage}
+use Rattle.graph_search.specs.Reads.{Look, AtNode, AtList, Answer, Gone, OfList}
 use Rattle.graph_search.specs.Search.{element_of, has_some, LayerSearch}
 use Rattle.graph_search.specs.Descent.{Descent, or_from, start_at}
 

@@ -1,5 +1,5 @@
 -- What a read tells, and the reads of a history: each is answered by the state at its own position.
-use Rattle.std.specs.Prelude.{◌≡◌, ℕ, ◌≤◌, ◌==◌, ◌||◌, ◌&&◌, not, nat_lt, if◌then◌else◌, ⊤, Bool, true, List, [], ◌∷◌, ◌++◌, length, filter, map, Option, Some, None}
+use Rattle.std.specs.Prelude.{◌≡◌, ℕ, ◌≤◌, ◌==◌, ◌||◌, not, nat_lt, if◌then◌else◌, ⊤, Bool, true, List, [], ◌∷◌, length, filter, map, Option, Some, None}
 use Rattle.std.specs.FinMap as fin
 use Rattle.vec_names.specs.declared.tid.Tid.{Tid}
 use Rattle.vec_names.specs.declared.heap_id.HeapId.{HeapId}

@@ -1,6 +1,6 @@
 -- A scan in batches: the HNSW paper's Algorithm 5, and after pgvector's iterative scans its going on for more. How a batch goes on, reads anew what it
 -- met before, and ends, is this project's own rule.
-use Rattle.std.specs.Prelude.{◌≡◌, ℕ, ◌||◌, ◌&&◌, not, if◌then◌else◌, Bool, true, false, List, [], ◌∷◌, ◌++◌, map, flat_map, take, Option, Some, None}
+use Rattle.std.specs.Prelude.{◌≡◌, ℕ, if◌then◌else◌, Bool, true, false, List, [], ◌∷◌, ◌++◌, map, flat_map, take, Option, Some, None}
 use Rattle.std.specs.Ordering.{is_lt}
 use Rattle.vec_names.specs.declared.tid.Tid.{Tid}
 use Rattle.vec_names.specs.declared.heap_id.HeapId.{HeapId}

@@ -13,7 +13,7 @@ use Rattle.neighbour_pick.specs.Slots.{Rival, member_in, members_from, rivals, n
 
 -- ---- a property of all
 
-All_of : {X : Type 0} → (X → Type 0) → List X → Type 0
+unfoldable pub All_of : {X : Type 0} → (X → Type 0) → List X → Type 0
 All_of P [] = Unit {0}
 All_of P (x ∷ xs) = P x × All_of P xs
 
@@ -23,7 +23,7 @@ module _ {X : Type 0} (P : X → Type 0) where
   both_all [] ys p q = q
   both_all (x ∷ xs) ys p q = (p.0, both_all xs ys p.1 q)
 
-  placed_all : (lt : X → X → Bool) (x : X) (xs : List X) → P x → All_of P xs → All_of P (placed lt x xs)
+  pub placed_all : (lt : X → X → Bool) (x : X) (xs : List X) → P x → All_of P xs → All_of P (placed lt x xs)
   unfolding All_of
   placed_all lt x [] p q = (p, tt)
   placed_all lt x (y ∷ ys) p q =
@@ -32,12 +32,12 @@ module _ {X : Type 0} (P : X → Type 0) where
         | false ↦ (p, q)
       ]
 
-  ranked_all : (lt : X → X → Bool) (xs : List X) → All_of P xs → All_of P (ranked lt xs)
+  pub ranked_all : (lt : X → X → Bool) (xs : List X) → All_of P xs → All_of P (ranked lt xs)
   unfolding All_of
   ranked_all lt [] p = tt
   ranked_all lt (x ∷ xs) p = placed_all lt x (ranked lt xs) p.0 (ranked_all lt xs p.1)
 
-  got_all : (xs : List X) (i : ℕ) (x : X) → All_of P xs → slice_get xs i ≡ Some x → P x
+  pub got_all : (xs : List X) (i : ℕ) (x : X) → All_of P xs → slice_get xs i ≡ Some x → P x
   unfolding All_of
   got_all [] i x p e = absurd (none-some x e)
   got_all (y ∷ ys) zero x p e = subst P (same_Some y x e) p.0

@@ -28,7 +28,7 @@ picks_long ops cs count =
 
 -- ---- which places
 
-in_whole : {X : Type 0} (n : ℕ) (xs : List X) (j : ℕ) (x : X) → slice_get (take n xs) j ≡ Some x → slice_get xs j ≡ Some x
+pub in_whole : {X : Type 0} (n : ℕ) (xs : List X) (j : ℕ) (x : X) → slice_get (take n xs) j ≡ Some x → slice_get xs j ≡ Some x
 in_whole zero xs j x e = absurd (none-some x e)
 in_whole (suc n) [] j x e = e
 in_whole (suc n) (y ∷ ys) zero x e = e
