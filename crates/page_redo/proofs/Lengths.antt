@@ -1,5 +1,5 @@
 -- How long the tuples are that are changed where they stand.
-use Rattle.std.proofs.Common.{◌≡◌, ℕ, ◌≤◌, List, Bool, ◌∷◌, ◌++◌, length, refl, arith}
+use Rattle.std.proofs.Common.{◌≡◌, ℕ, ◌≤◌, ◌+◌, ◌*◌, ◌/◌, List, Bool, ◌∷◌, ◌++◌, length, refl, arith}
 use Rattle.std.specs.Int.{w32, to_le_bytes}
 use Rattle.std.proofs.lemmas.List.{length-append}
 use Rattle.bit_code.specs.Places.{packed}
@@ -8,7 +8,7 @@ use Rattle.vec_tuples.specs.declared.element.Element.{Element}
 use Rattle.vec_tuples.specs.declared.centre.CentreTuple.{CentreTuple}
 use Rattle.vec_tuples.specs.declared.meta.Meta.{Meta}
 use Rattle.vec_tuples.specs.Spelling.{element_bytes, bits_bytes, length_word, head_of_element, head_bytes, centre_bytes, meta_bytes}
-use Rattle.vec_tuples.proofs.EachField.{length-tid_option_bytes}
+use Rattle.vec_tuples.proofs.EachField.{length-tid_option_bytes, packed_long}
 use Rattle.vec_tuples.proofs.ElementLaws.{length-head_bytes}
 
 pub bits_long : (bits : List Bool) → 8 ≤ length (bits_bytes bits)
@@ -38,3 +38,12 @@ unfolding meta_bytes
 meta_long m =
     let rest : List ℕ = m.level ∷ 0 ∷ to_le_bytes w32 m.hint in
     omega (arith, length-append (tid_option_bytes m.entry) rest, length-tid_option_bytes m.entry)
+
+pub length-element_bytes : (e : Element) → length (element_bytes e) ≡ 80 + (length e.bits + 7) / 8
+unfolding element_bytes
+length-element_bytes e =
+    let word : List ℕ = to_le_bytes w32 (length_word (length e.bits)) in
+    let count : List ℕ = to_le_bytes w32 (length e.bits) in
+    let a : length word ≡ 4 = refl in
+    let b : length count ≡ 4 = refl in
+    omega (arith, length-append (head_bytes (head_of_element e)) (bits_bytes e.bits), length-head_bytes (head_of_element e), length-append word (count ++ packed e.bits), length-append count (packed e.bits), a, b, packed_long e.bits)

@@ -4,3 +4,5 @@ pub mod MetaChanges
 pub mod Rising
 pub mod Elsewhere
 pub mod Others
+pub mod Pairs
+pub mod Putting

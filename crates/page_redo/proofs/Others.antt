@@ -22,7 +22,7 @@ use Rattle.page_redo.specs.Redo.{at_one, at_two, changed, named, AreEntriesDropp
 
 -- ---- items of a list that is changed
 
-set_apart : (items : List (List ℕ)) (i j : ℕ) (x : List ℕ) → (i ≡ j → ⊥) → slice_get (slice_set items i x) j ≡ slice_get items j
+pub set_apart : (items : List (List ℕ)) (i j : ℕ) (x : List ℕ) → (i ≡ j → ⊥) → slice_get (slice_set items i x) j ≡ slice_get items j
 set_apart [] i j x apart = refl
 set_apart (y ∷ ys) zero zero x apart = absurd (apart refl)
 set_apart (y ∷ ys) zero (suc j) x apart = refl
@@ -56,15 +56,15 @@ behind_keeps c d (suc j) x is h = record {
 
 -- ---- what a role that gives a page has made
 
-so : (test : Bool) (o : Option Content) (d : Content) → if_so test o ≡ Some d → o ≡ Some d
+pub so : (test : Bool) (o : Option Content) (d : Content) → if_so test o ≡ Some d → o ≡ Some d
 so true o d is = is
 so false o d is = absurd cc
 
-given : (test : Bool) (v d : Content) → when test v ≡ Some d → v ≡ d
+pub given : (test : Bool) (v d : Content) → when test v ≡ Some d → v ≡ d
 given true v d is = some_is v d is
 given false v d is = absurd cc
 
-added_is : (x : List ℕ) (c d : Content) → added x c ≡ Some d → d.items ≡ c.items ++ x ∷ []
+pub added_is : (x : List ℕ) (c d : Content) → added x c ≡ Some d → d.items ≡ c.items ++ x ∷ []
 added_is x c d is = let e = given (nat_le (round8 (length x) + 4) (free_of c)) (record c { items = c.items ++ x ∷ [] }) d is in ap (λ (p : Content). p.items) (sym e)
 
 mapped_once : {B : Type 0} (c d : Content) (off : ℕ) (view : B → List ℕ) (o : Option B) → option_map (λ b. with_item c off (view b)) o ≡ Some d → (x : List ℕ) × (d ≡ with_item c off x)

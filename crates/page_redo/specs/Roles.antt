@@ -86,6 +86,12 @@ abbrev pub put_over : Option (List ℕ) → ℕ → Bool → List ℕ → Role
 put_over None off may_go x c = if_so (off == length c.items + 1) (added x c)
 put_over (Some old) off may_go x c = when (may_go && length old == length x) (with_item c off x)
 
+-- Whether that can be, with an item of so many bytes: what stands at the offset, the next offset and what is free are
+-- the page's.
+abbrev pub may_put : Option (List ℕ) → ℕ → Bool → ℕ → ℕ → ℕ → Bool
+may_put None off may_go long next free = off == next && nat_le (round8 long + 4) free
+may_put (Some old) off may_go long next free = may_go && length old == long
+
 abbrev pub put : ℕ → Bool → List ℕ → Role
 put off may_go x c = put_over (item_at c.items off) off may_go x c
 

@@ -1,18 +1,21 @@
 //! Changes of one tuple where it stands on a page.
 
-ghost use Rattle.std.specs.Prelude.{◌≡◌, ◌<◌, ◌≤◌, ◌+◌, ◌*◌, ◌^◌, length, slice_set, replicate, Some, None, true, false};
+ghost use Rattle.std.specs.Prelude.{◌≡◌, ◌<◌, ◌≤◌, ◌+◌, ◌*◌, ◌^◌, ◌/◌, length, slice_set, replicate, Some, None, IsSomeAnd, true, false};
 ghost use Rattle.vec_names.specs.declared.tid.Tid.{Tid as Tids};
 ghost use Rattle.page_bytes.specs.Content.{item_at};
 ghost use Rattle.vec_tuples.specs.declared.element.Element.{Element};
 ghost use Rattle.vec_tuples.specs.declared.links.Links.{Links};
 ghost use Rattle.vec_tuples.specs.declared.centre.CentreTuple.{CentreTuple};
 ghost use Rattle.vec_tuples.specs.declared.meta.Meta.{Meta as MetaTuple};
-ghost use Rattle.vec_tuples.specs.Spelling.{IsMeta, element_bytes, links_bytes, meta_bytes, centre_bytes, centre_with, links_with};
+ghost use Rattle.vec_tuples.specs.Spelling.{IsMeta, element_bytes, element_with, links_bytes, meta_bytes, centre_bytes, centre_with, links_with};
 ghost use Rattle.page_redo.specs.Items.{with_item, with_head};
 
+use bit_code::Bits;
 use page_bytes::{ItemChange, Page};
 use vec_names::Tid;
-use vec_tuples::{ElementHead, Meta, fill_links, fill_meta, set_aim, set_head, set_slot};
+use vec_tuples::{
+    ElementHead, Meta, fill_element, fill_links, fill_meta, set_aim, set_head, set_slot,
+};
 
 /// The most slots of a neighbour tuple.
 const MOST_SLOTS: usize = 1358;
@@ -100,6 +103,26 @@ impl ItemChange for NoSlots {
     }
 }
 
+/// A tuple becomes the element of this head and this value.
+#[derive(Drop)]
+struct NewElement<'a> {
+    head: &'a ElementHead,
+    bits: &'a Bits,
+}
+
+impl ItemChange for NewElement<'_> {
+    ghost use Rattle.std.specs.Prelude.{◌≡◌, ◌+◌, ◌/◌, length};
+    ghost use Rattle.vec_tuples.specs.Spelling.{element_bytes, element_with};
+
+    ghost fits = { λ change old. length old ≡ 80 + (length change.bits.now + 7) / 8 };
+
+    ghost makes = { λ change old new. new ≡ element_bytes (element_with change.head.now change.bits.now) };
+
+    fn change(&self, item: &mut [u8]) {
+        fill_element(self.head, self.bits, item);
+    }
+}
+
 /// A meta tuple becomes this one.
 #[derive(Drop)]
 struct NewMeta {
@@ -153,6 +176,23 @@ pub fn put_slot(page: &mut Page, off: u16, slot: u16, to: Tid)
     ensures { (l : Links) → item_at page.old.items off ≡ Some (links_bytes l) → page.new ≡ with_item page.old off (links_bytes (links_with l.deleted l.version (slice_set l.tids slot (Some to)))) }
 {
     page.change_item(off, &NewSlot { slot, to });
+}
+
+/// Puts an element over an item that is as long.
+pub fn put_element_over(page: &mut Page, off: u16, head: &ElementHead, bits: &Bits)
+    requires { IsSomeAnd (item_at page.old.items off) (λ x. length x ≡ 80 + (length bits.now + 7) / 8) }
+    ensures { page.new ≡ with_item page.old off (element_bytes (element_with head.now bits.now)) }
+{
+    page.change_item(off, &NewElement { head, bits });
+}
+
+/// Puts the list of a node that is not deleted over an item that is as long.
+pub fn put_links_over(page: &mut Page, off: u16, version: u8, tids: &[Option<Tid>])
+    requires long { IsSomeAnd (item_at page.old.items off) (λ x. length x ≡ 4 + 6 * length tids.now) }
+    requires few { length tids.now < 2 ^ 16 }
+    ensures { page.new ≡ with_item page.old off (links_bytes (links_with false version tids.now)) }
+{
+    page.change_item(off, &NewSlots { version, tids });
 }
 
 /// Gives the neighbour tuple at an offset, which is not deleted, a version and as many slots as it has.

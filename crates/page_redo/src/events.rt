@@ -5,6 +5,7 @@ ghost use Rattle.page_redo.specs.Items.{head_changed, links_changed};
 ghost use Rattle.page_redo.specs.Roles.{on_graph, marked, emptied, put_element, put_links, grown, chained};
 ghost use Rattle.page_redo.specs.Redo.{at_two, changed, redone, Becomes};
 
+use crate::both::{grow_both, mark_both, put_both};
 use crate::fault::RedoFault;
 use crate::graph::{drop_ids, empty, enter, hint, join, link, mark, relist};
 use crate::lists::{add_entry, aim, chain, drop_entries, grow};
@@ -55,7 +56,7 @@ fn change(
             id,
             bits,
             lists,
-        } => put(
+        } => put_node(
             page,
             params,
             block,
@@ -86,7 +87,7 @@ fn change(
             at,
             list_at,
             version,
-        } => mark_both(page, params, block, wrap, *at, *list_at, *version),
+        } => mark_node(page, params, block, wrap, *at, *list_at, *version),
         Event::Entry { to, level } => enter(page, block, *to, *level),
         Event::Hint { block: room } => hint(page, block, *room),
         Event::IvfAdd {
@@ -114,7 +115,7 @@ fn change(
 }
 
 /// A new node, where both of its tuples stand on the block or one of them does.
-fn put(
+fn put_node(
     page: &mut Page,
     params: &Params,
     block: u32,
@@ -138,17 +139,11 @@ fn put(
     if list_at.block != block {
         return put_element(page, params, at, list_at, version, level, id, bits, lists);
     }
-    let mut copy = page.copied();
-    put_element(
-        &mut copy, params, at, list_at, version, level, id, bits, lists,
-    )?;
-    put_links(&mut copy, params, list_at, version, level, bits, lists)?;
-    *page = copy;
-    Ok(())
+    put_both(page, params, at, list_at, version, level, id, bits, lists)
 }
 
 /// A node is deleted, where both of its tuples stand on the block or one of them does.
-fn mark_both(
+fn mark_node(
     page: &mut Page,
     params: &Params,
     block: u32,
@@ -169,11 +164,7 @@ fn mark_both(
     if list_at.block != block {
         return mark(page, params, wrap, at.off, version);
     }
-    let mut copy = page.copied();
-    mark(&mut copy, params, wrap, at.off, version)?;
-    empty(&mut copy, params, wrap, list_at.off, version)?;
-    *page = copy;
-    Ok(())
+    mark_both(page, params, wrap, at.off, list_at.off, version)
 }
 
 /// A page more at the end of a list's chain, which is the block or follows it.
@@ -197,9 +188,5 @@ fn grow_chain(
     if last != block {
         return grow(page, params, id, bits);
     }
-    let mut copy = page.copied();
-    grow(&mut copy, params, id, bits)?;
-    chain(&mut copy, params, new, bits)?;
-    *page = copy;
-    Ok(())
+    grow_both(page, params, new, id, bits)
 }

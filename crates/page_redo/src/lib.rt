@@ -5,6 +5,7 @@
 //! this one call, so that all of them make the same pages. Nothing here takes memory.
 #![tactic(auto)]
 
+mod both;
 mod changes;
 mod events;
 mod fault;

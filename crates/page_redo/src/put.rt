@@ -1,14 +1,16 @@
 //! The roles of a new node: its element and its neighbour tuple, at new places or over those of a deleted node.
 
-ghost use Rattle.std.specs.Prelude.{◌≡◌, ◌<◌, ◌≤◌, ◌+◌, ◌*◌, ◌/◌, ◌&&◌, ◌==◌, ◌∷◌, [], false, nat_le, length, List, Bool};
+ghost use Rattle.std.specs.Prelude.{◌≡◌, ◌<◌, ◌≤◌, ◌+◌, ◌*◌, ◌/◌, ◌&&◌, ◌==◌, ◌∷◌, [], false, nat_le, length, List, Bool, ℕ};
 ghost use Rattle.std.specs.Option.{option_map};
 ghost use Rattle.vec_names.specs.Params.{IsInRange};
 ghost use Rattle.page_bytes.specs.Content.{item_at};
+ghost use Rattle.vec_tuples.specs.declared.element.ElementHead.{ElementHead as ElementHeads};
 ghost use Rattle.vec_tuples.specs.Spelling.{element_bytes, element_with, head_with, links_bytes, links_with};
 ghost use Rattle.page_redo.specs.Items.{added, element_at, links_at};
 ghost use Rattle.page_redo.specs.Roles.{if_so, put, put_element, put_links, is_node, is_old_element, are_old_links};
 ghost use Rattle.page_redo.specs.Redo.{Becomes};
 
+use crate::changes::{put_element_over, put_links_over};
 use crate::fault::RedoFault;
 use crate::items::{head_at, links_head_at};
 use crate::kinds::is_on_graph;
@@ -34,7 +36,7 @@ pub fn append(page: &mut Page, x: &[u8]) -> Result<(), RedoFault>
 }
 
 /// How many bytes the item at an offset has, if there is one.
-fn item_long(page: &Page, off: u16) -> Option<usize>
+pub fn item_long(page: &Page, off: u16) -> Option<usize>
     ensures { result ≡ option_map (λ x. length x) (item_at page.now.items off) }
 {
     match page.item(off) {
@@ -43,23 +45,7 @@ fn item_long(page: &Page, off: u16) -> Option<usize>
     }
 }
 
-/// Puts an item of 1 to 8,156 bytes over the one at an offset, which must be as long, and may go; or behind the last
-/// one, where the offset is the next.
-fn put_item(page: &mut Page, off: u16, may_go: bool, x: &[u8]) -> Result<(), RedoFault>
-    requires some { 0 < length x.now }
-    requires small { length x.now ≤ 8156 }
-    ensures { Becomes (put off may_go x.now page.old) page.old page.new result }
-{
-    let Some(long) = item_long(page, off) else {
-        return put_behind(page, off, x);
-    };
-    if !may_go || long != x.len() {
-        return Err(RedoFault::Unfit);
-    }
-    page.overwrite(off, x);
-    Ok(())
-}
-
+/// Adds an item of 1 to 8,156 bytes behind the last one, where the offset is the next.
 fn put_behind(page: &mut Page, off: u16, x: &[u8]) -> Result<(), RedoFault>
     requires some { 0 < length x.now }
     requires small { length x.now ≤ 8156 }
@@ -72,7 +58,7 @@ fn put_behind(page: &mut Page, off: u16, x: &[u8]) -> Result<(), RedoFault>
 }
 
 /// Whether a node of this version and level, with so many places and slots, has tuples.
-fn is_node(params: &Params, version: u8, level: u8, bits: &Bits, lists: &[Option<Tid>]) -> bool
+pub fn is_node(params: &Params, version: u8, level: u8, bits: &Bits, lists: &[Option<Tid>]) -> bool
     requires { IsInRange params.now }
     ensures { result ≡ is_node params.now version level bits.now lists.now }
 {
@@ -90,7 +76,7 @@ fn slots_of(level: u8, m: u16) -> usize
 }
 
 /// Whether the element of a deleted node of this version stands at an offset.
-fn is_old_element(page: &Page, params: &Params, off: u16, version: u8) -> bool
+pub fn is_old_element(page: &Page, params: &Params, off: u16, version: u8) -> bool
     requires { IsInRange params.now }
     ensures { result ≡ is_old_element version (element_at params.now page.now off) }
 {
@@ -101,7 +87,7 @@ fn is_old_element(page: &Page, params: &Params, off: u16, version: u8) -> bool
 }
 
 /// Whether the neighbour tuple of a deleted node of this version stands at an offset.
-fn are_old_links(page: &Page, params: &Params, off: u16, version: u8) -> bool
+pub fn are_old_links(page: &Page, params: &Params, off: u16, version: u8) -> bool
     requires { IsInRange params.now }
     ensures { result ≡ are_old_links version (links_at params.now page.now off) }
 {
@@ -112,7 +98,7 @@ fn are_old_links(page: &Page, params: &Params, off: u16, version: u8) -> bool
 }
 
 /// The head of a new element, which has one id.
-fn new_head(list_at: Tid, version: u8, level: u8, id: HeapId) -> ElementHead
+pub fn new_head(list_at: Tid, version: u8, level: u8, id: HeapId) -> ElementHead
     ensures { result ≡ head_with level false version (id ∷ []) list_at }
 {
     let mut ids = ArrayVec::new();
@@ -126,8 +112,30 @@ fn new_head(list_at: Tid, version: u8, level: u8, id: HeapId) -> ElementHead
     }
 }
 
-/// Puts an element over one that may go, or behind the last item.
-fn put_spelled(
+/// How many bytes the element of a value has.
+pub fn element_long(bits: &Bits) -> usize
+    ensures told { result ≡ 80 + (length bits.now + 7) / 8 }
+    ensures small { result ≤ 8156 }
+
+    // Whatever its head.
+    ensures spelled { (h : ElementHeads) → length (element_bytes (element_with h bits.now)) ≡ result }
+{
+    80 + (bits.count() as usize + 7) / 8
+}
+
+/// How many bytes a list of so many slots has.
+pub fn links_long(lists: &[Option<Tid>]) -> usize
+    requires { length lists.now ≤ 1358 }
+    ensures told { result ≡ 4 + 6 * length lists.now }
+    ensures small { result ≤ 8156 }
+    ensures spelled { (version : ℕ) → length (links_bytes (links_with false version lists.now)) ≡ result }
+{
+    4 + 6 * lists.len()
+}
+
+/// Puts an element over one that may go and is as long, where it stands; or behind the last item, where the offset is
+/// the next.
+pub fn place_element(
     page: &mut Page,
     off: u16,
     may_go: bool,
@@ -136,15 +144,33 @@ fn put_spelled(
 ) -> Result<(), RedoFault>
     ensures { Becomes (put off may_go (element_bytes (element_with head.now bits.now)) page.old) page.old page.new result }
 {
-    let mut buffer = [0; MOST];
-    let long = 80 + (bits.count() as usize + 7) / 8;
-    let item = &mut buffer[..long];
-    fill_element(head, bits, item);
-    put_item(page, off, may_go, item)
+    let Some(long) = item_long(page, off) else {
+        return element_behind(page, off, head, bits);
+    };
+    if !may_go || long != element_long(bits) {
+        return Err(RedoFault::Unfit);
+    }
+    put_element_over(page, off, head, bits);
+    Ok(())
 }
 
-/// Puts a list over one that may go, or behind the last item.
-fn put_slots_spelled(
+fn element_behind(
+    page: &mut Page,
+    off: u16,
+    head: &ElementHead,
+    bits: &Bits,
+) -> Result<(), RedoFault>
+    ensures { Becomes (if_so (off == length page.old.items + 1) (added (element_bytes (element_with head.now bits.now)) page.old)) page.old page.new result }
+{
+    let mut buffer = [0; MOST];
+    let item = &mut buffer[..element_long(bits)];
+    fill_element(head, bits, item);
+    put_behind(page, off, item)
+}
+
+/// Puts a list over one that may go and is as long, where it stands; or behind the last item, where the offset is the
+/// next.
+pub fn place_links(
     page: &mut Page,
     off: u16,
     may_go: bool,
@@ -154,11 +180,29 @@ fn put_slots_spelled(
     requires { length lists.now ≤ 1358 }
     ensures { Becomes (put off may_go (links_bytes (links_with false version lists.now)) page.old) page.old page.new result }
 {
+    let Some(long) = item_long(page, off) else {
+        return links_behind(page, off, version, lists);
+    };
+    if !may_go || long != links_long(lists) {
+        return Err(RedoFault::Unfit);
+    }
+    put_links_over(page, off, version, lists);
+    Ok(())
+}
+
+fn links_behind(
+    page: &mut Page,
+    off: u16,
+    version: u8,
+    lists: &[Option<Tid>],
+) -> Result<(), RedoFault>
+    requires { length lists.now ≤ 1358 }
+    ensures { Becomes (if_so (off == length page.old.items + 1) (added (links_bytes (links_with false version lists.now)) page.old)) page.old page.new result }
+{
     let mut buffer = [0; MOST];
-    let long = 4 + 6 * lists.len();
-    let item = &mut buffer[..long];
+    let item = &mut buffer[..links_long(lists)];
     fill_links(false, version, lists, item);
-    put_item(page, off, may_go, item)
+    put_behind(page, off, item)
 }
 
 /// The element of a new node, with one id.
@@ -183,7 +227,7 @@ pub fn put_element(
         return Err(RedoFault::Unfit);
     }
     let may_go = is_old_element(page, params, at.off, version);
-    put_spelled(
+    place_element(
         page,
         at.off,
         may_go,
@@ -212,5 +256,5 @@ pub fn put_links(
         return Err(RedoFault::Unfit);
     }
     let may_go = are_old_links(page, params, list_at.off, version);
-    put_slots_spelled(page, list_at.off, may_go, version, lists)
+    place_links(page, list_at.off, may_go, version, lists)
 }

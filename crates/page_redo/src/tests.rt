@@ -457,3 +457,69 @@ fn no_room_no_kind_no_eleventh_id(rt: HostRuntime) -> Result<(), Fail> {
     );
     Ok(())
 }
+
+/// The event of a new node of level 0 with the value 0000.
+fn put_at(alloc: Global, off: u16, list_off: u16, version: u8) -> Result<Event, Fail> {
+    Ok(Event::Put {
+        at: place(off),
+        list_at: place(list_off),
+        version,
+        level: 0,
+        id: row(1),
+        bits: read_bits(alloc, "0000")?,
+        lists: slots(alloc, 4)?,
+    })
+}
+
+#[test]
+fn both_places_on_one_page(rt: HostRuntime) -> Result<(), Fail> {
+    let alloc = rt.alloc();
+    let mut page = Page::fresh(PageKind::Hnsw);
+
+    // The list's place is the element's, before it, or not the next one.
+    for (off, list_off) in [(1, 1), (2, 1), (1, 3)] {
+        assert!(rt; !fits(&put_at(alloc, off, list_off, 1)?, GRAPH, 255, 1, &mut page));
+    }
+    assert!(rt; fits(&put_at(alloc, 1, 2, 1)?, GRAPH, 255, 1, &mut page));
+    assert!(rt; fits(&put_at(alloc, 3, 4, 1)?, GRAPH, 255, 1, &mut page));
+    for (list_off, version) in [(1, 1), (3, 1), (5, 1), (2, 2)] {
+        let mark = Event::Mark {
+            at: place(1),
+            list_at: place(list_off),
+            version,
+        };
+        assert!(rt; !fits(&mark, GRAPH, 255, 1, &mut page));
+    }
+    let mark = Event::Mark {
+        at: place(1),
+        list_at: place(2),
+        version: 1,
+    };
+    assert!(rt; fits(&mark, GRAPH, 255, 1, &mut page));
+
+    // The element may go, and the list is a live one, an element, or the same place. Then both may go, or the list stands
+    // behind the last item.
+    for list_off in [4, 3, 1, 6] {
+        assert!(rt; !fits(&put_at(alloc, 1, list_off, 2)?, GRAPH, 255, 1, &mut page));
+    }
+    assert!(rt; fits(&put_at(alloc, 1, 2, 2)?, GRAPH, 255, 1, &mut page.copied()));
+    assert!(rt; fits(&put_at(alloc, 1, 5, 2)?, GRAPH, 255, 1, &mut page.copied()));
+    assert!(rt; fits(&put_at(alloc, 5, 2, 2)?, GRAPH, 255, 1, &mut page) && page.count() == 5);
+    Ok(())
+}
+
+#[test]
+fn a_chain_that_goes_on_at_its_own_page(rt: HostRuntime) -> Result<(), Fail> {
+    let mut page = Page::fresh(PageKind::IvfEntries);
+    let grow = Event::IvfGrow {
+        list: 0,
+        last: 3,
+        block: 3,
+        id: row(2),
+        bits: read_bits(rt.alloc(), "0011")?,
+    };
+    assert!(rt; fits(&grow, LISTS, 255, 3, &mut page));
+    assert!(rt; page.item(1) == Some(&ENTRY) && page.next() == Some(3) && page.count() == 1);
+    assert!(rt; !fits(&grow, LISTS, 255, 3, &mut page));
+    Ok(())
+}
