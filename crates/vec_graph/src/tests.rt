@@ -43,6 +43,7 @@ fn laws_before_any_act(rt: HostRuntime) {
     law_places(&base, &acts);
     law_levels(&base, &acts);
     law_later(&base, &acts);
+    law_asked(&base, &acts);
     law_layers();
     law_live();
     law_examples();
