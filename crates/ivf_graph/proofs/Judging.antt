@@ -1,17 +1,16 @@
 -- One act more of a history.
-use Rattle.std.proofs.Common.{◌≡◌, ℕ, ◌+◌, ◌<◌, List, [], ◌∷◌, ◌++◌, take, slice_get, length, get_or, Result, Err, Some, refl, sym, ap, subst, ◌∙◌}
+use Rattle.std.proofs.Common.{◌≡◌, ℕ, ◌+◌, ◌<◌, List, [], ◌∷◌, ◌++◌, take, slice_get, length, get_or, Some, refl, sym, ap, subst, ◌∙◌}
 use Rattle.std.proofs.lemmas.List.{take_more}
 use Rattle.std.proofs.lemmas.Option.{slice_get_read}
 use Rattle.vec_event.specs.declared.event.Event.{Event}
 use Rattle.vec_event.specs.declared.event.Event.TheVariants.{IvfGrow}
 use Rattle.vec_event.specs.declared.event.Act.{Act}
-use Rattle.ivf_graph.specs.declared.fault.AuditFault.{AuditFault}
-use Rattle.ivf_graph.specs.declared.fault.AuditFault.TheVariants.{Memory, Illegal}
+use Rattle.vec_history.specs.Judging.{IsFirstIllegal}
 use Rattle.ivf_graph.specs.declared.graph.IvfGraph.{IvfGraph}
 use Rattle.ivf_graph.specs.Effect.{effect, after}
 use Rattle.ivf_graph.specs.Rules.{IsEventAllowed}
-use Rattle.ivf_graph.specs.Legal.{IsAllowed, IsLegal, IsFirstIllegal}
-use Rattle.ivf_graph.proofs.Prefixes.{more_after}
+use Rattle.ivf_graph.specs.Legal.{IsAllowed, IsLegal}
+use Rattle.vec_history.proofs.Prefixes.{more_after}
 
 pub after_more : (g : IvfGraph) (acts : List Act) (a : Act) → after g (acts ++ a ∷ []) ≡ effect a.event (after g acts)
 after_more g [] a = refl
@@ -27,21 +26,13 @@ state_more base acts n a h is = sym (ap (after base) (taken_more acts n a h is) 
 
 pub legal_more : (base : IvfGraph) (acts : List Act) (n : ℕ) (a : Act) → n < length acts → a ≡ get_or acts n a
     → IsLegal base (take n acts) → IsAllowed base (take n acts) a → IsLegal base (take (n + 1) acts)
-legal_more base acts n a h is legal may = subst (IsLegal base) (sym (taken_more acts n a h is)) (more_after base [] (take n acts) a legal may)
+legal_more base acts n a h is legal may = subst (IsLegal base) (sym (taken_more acts n a h is)) (more_after (IsAllowed base) [] (take n acts) a legal may)
 
 pub grows_low : (g : IvfGraph) (acts : List Act) (desk : ℕ) (e : Event) → IsEventAllowed g acts desk e
     → (list last block : ℕ) (id : _) (bits : _) → e ≡ IvfGrow list last block id bits → block < 32768
 grows_low g acts desk e may list last block id bits is = (subst (IsEventAllowed g acts desk) is may).not_high
 
-pub memory_alone : (r : Result (Unit {0}) AuditFault) (y : AuditFault) (at : ℕ) → r ≡ Err y → y ≡ Memory → r ≡ Err (Illegal at) → ⊥
-memory_alone r y at is memory illegal = absurd (cc)
-
-same_place : (n at : ℕ) → ◌≡◌ {A = Result (Unit {0}) AuditFault} (Err (Illegal n)) (Err (Illegal at)) → n ≡ at
-same_place n at e = cc
-
 pub first_illegal : (base : IvfGraph) (acts : List Act) (n : ℕ) (a : Act) → n < length acts → a ≡ get_or acts n a
-    → IsLegal base (take n acts) → (IsAllowed base (take n acts) a → ⊥)
-    → (at : ℕ) → ◌≡◌ {A = Result (Unit {0}) AuditFault} (Err (Illegal n)) (Err (Illegal at)) → IsFirstIllegal base acts at
-first_illegal base acts n a h is legal not_allowed at same =
-    let it : slice_get acts n ≡ Some a = slice_get_read acts (length acts) n a refl h is in
-    subst (IsFirstIllegal base acts) (same_place n at same) (record { act = a; there = it; legal_before = legal; not_allowed = not_allowed })
+    → IsLegal base (take n acts) → (IsAllowed base (take n acts) a → ⊥) → IsFirstIllegal (IsAllowed base) acts n
+first_illegal base acts n a h is legal refused =
+    record { act = a; there = slice_get_read acts (length acts) n a refl h is; legal_before = legal; refused = refused }

@@ -1,4 +1,3 @@
-pub mod Prefixes
 pub mod SameRows
 pub mod AnswerOrder
 pub mod FirstFound

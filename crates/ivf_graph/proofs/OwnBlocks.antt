@@ -17,7 +17,8 @@ use Rattle.ivf_graph.specs.declared.graph.IvfGraph.{IvfGraph}
 use Rattle.ivf_graph.specs.Graph.{Row, Part, parts, block_numbers, AreBlocksOwn}
 use Rattle.ivf_graph.specs.Effect.{effect, after, changed_part, with_rows, changed, grown, with_row, others}
 use Rattle.ivf_graph.specs.Rules.{IsEventAllowed}
-use Rattle.ivf_graph.specs.Legal.{IsLegalAfter}
+use Rattle.vec_history.specs.Legal.{IsLegalAfter}
+use Rattle.ivf_graph.specs.Legal.{IsAllowed}
 use Rattle.ivf_graph.proofs.Judging.{after_more}
 use Rattle.ivf_graph.proofs.SameRows.{changed_below, same_chains}
 
@@ -117,7 +118,7 @@ own_event g acts desk (Cancel stage) may own = own
 own_event g acts desk (Settled upto) may own = own
 own_event g acts desk (DiskFaulted count) may own = own
 
-pub own_after : (base : IvfGraph) (before acts : List Act) → IsLegalAfter base before acts → AreBlocksOwn (after base before) → AreBlocksOwn (after (after base before) acts)
+pub own_after : (base : IvfGraph) (before acts : List Act) → IsLegalAfter (IsAllowed base) before acts → AreBlocksOwn (after base before) → AreBlocksOwn (after (after base before) acts)
 own_after base before [] legal own = own
 own_after base before (a ∷ acts) legal own =
     subst (λ g. AreBlocksOwn (after g acts)) (after_more base before a)

@@ -1,21 +1,22 @@
 //! The judge of histories.
 
-ghost use Rattle.std.specs.Prelude.{◌≡◌, ℕ, OnOk, Err};
-ghost use Rattle.ivf_graph.specs.Legal.{IsLegal, IsFirstIllegal};
+ghost use Rattle.std.specs.Prelude.{IfErr, OnOk};
+ghost use Rattle.vec_history.specs.Judging.{IsFaultOf};
+ghost use Rattle.ivf_graph.specs.Legal.{IsAllowed, IsLegal};
 
 use crate::changes::apply;
 use crate::copies::copied;
-use crate::fault::AuditFault;
 use crate::graph::IvfGraph;
 use crate::rules::is_allowed;
 use std::alloc::Global;
 use vec_event::Act;
+use vec_history::AuditFault;
 
 /// Judges the acts of an index of lists that begins at this base: whether each was allowed after the acts
 /// before it. `Illegal` names the first that was not. Where memory is wanting nothing is said of the acts.
 pub fn audit_ivf(alloc: Global, base: &IvfGraph, acts: &[Act]) -> Result<(), AuditFault>
     ensures legal { OnOk result (IsLegal base.now acts.now) }
-    ensures illegal { (at : ℕ) → result ≡ Err (AuditFault.Illegal at) → IsFirstIllegal base.now acts.now at }
+    ensures fault { IfErr result (IsFaultOf (IsAllowed base.now) acts.now) }
 {
     let mut index = copied(alloc, base)?;
     for (at, act) in acts.iter().enumerate() {

@@ -10,17 +10,16 @@ mod audit;
 mod blocks;
 mod changes;
 mod copies;
-mod fault;
 mod graph;
 mod law;
 mod list;
 mod rules;
 
 pub use audit::audit_ivf;
-pub use fault::AuditFault;
 pub use graph::IvfGraph;
 pub use law::{law_alone, law_answer, law_blocks, law_cut, law_examples, law_reads, law_rows};
 pub use list::IvfList;
+pub use vec_history::AuditFault;
 
 #[cfg(test)]
 mod tests;

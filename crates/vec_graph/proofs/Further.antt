@@ -1,7 +1,7 @@
 -- What one more act of another desk leaves of a history.
 use Rattle.std.proofs.Common.{◌≡◌, ◌≢◌, ◌⊎◌, inl, inr, ℕ, zero, suc, ◌+◌, ◌<◌, ◌≤◌, List, [], ◌∷◌, ◌++◌, take, length, slice_get, Some, refl, sym, ap, subst, ◌∙◌, arith}
-use Rattle.std.proofs.lemmas.Option.{same_Some, none-some}
-use Rattle.std.proofs.lemmas.List.{length-append, length-take}
+use Rattle.std.proofs.lemmas.Option.{same_Some, none-some, slice_get_within}
+use Rattle.std.proofs.lemmas.List.{length-append, length-take, take-append-le}
 use Rattle.vec_names.specs.declared.tid.Tid.{Tid}
 use Rattle.vec_event.specs.declared.event.Event.{Event}
 use Rattle.vec_event.specs.declared.event.Event.TheVariants as event
@@ -34,16 +34,6 @@ in_one_more (z ∷ xs) y (suc k) x e =
       | inl there ↦ inl there
       | inr last ↦ inr (ap (λ (n : ℕ). suc n) last.0, last.1)
     ]
-
-pub got_inside : {X : Type 0} (xs : List X) (k : ℕ) (x : X) → slice_get xs k ≡ Some x → k < length xs
-got_inside [] k x e = absurd (none-some x e)
-got_inside (y ∷ ys) zero x e = omega arith
-got_inside (y ∷ ys) (suc k) x e = omega (arith, got_inside ys k x e)
-
-pub same_front : {X : Type 0} (n : ℕ) (xs ys : List X) → n ≤ length xs → take n (xs ++ ys) ≡ take n xs
-same_front zero xs ys h = refl
-same_front (suc n) [] ys h = absurd (omega (arith, h))
-same_front (suc n) (x ∷ xs) ys h = ap (λ (l : List _). x ∷ l) (same_front n xs ys (omega (arith, h)))
 
 -- ---- acts of another desk
 
@@ -109,7 +99,7 @@ module _ (acts : List Act) (a : Act) (desk : ℕ) (other : a.desk ≢ desk) wher
 
   module _ (base : Graph) where
     same_state : (p : ℕ) → p ≤ length acts → state_after base acts p ≡ state_after base (acts ++ a ∷ []) p
-    same_state p h = ap (after base) (sym (same_front p acts (a ∷ []) h))
+    same_state p h = ap (after base) (sym (take-append-le p acts (a ∷ []) h))
 
     pub knows_on : (at : Tid) (layer : ℕ) → Knows base acts desk at layer → Knows base (acts ++ a ∷ []) desk at layer
     knows_on at layer k = record {
@@ -139,14 +129,14 @@ module _ (acts : List Act) (a : Act) (desk : ℕ) (other : a.desk ≢ desk) wher
 
     pub repaired_on : (IsOfVacuum a.event → ⊥) → IsRepaired base acts desk → IsRepaired base (acts ++ a ∷ []) desk
     repaired_on not_vacuum r =
-        let begun_inside : r.begun < length acts = got_inside acts r.begun _ r.phase.begun in
-        let scan_inside : r.barrier < length acts = got_inside acts r.barrier _ r.scan.is.taken in
-        let first_inside : r.removed.barrier < length (take r.begun acts) = got_inside (take r.begun acts) r.removed.barrier _ r.removed.update.is.taken in
+        let begun_inside : r.begun < length acts = slice_get_within acts r.begun _ r.phase.begun in
+        let scan_inside : r.barrier < length acts = slice_get_within acts r.barrier _ r.scan.is.taken in
+        let first_inside : r.removed.barrier < length (take r.begun acts) = slice_get_within (take r.begun acts) r.removed.barrier _ r.removed.update.is.taken in
         record {
           begun = r.begun;
           phase = phase_on _ r.begun not_vacuum r.phase;
           first = r.first;
-          removed = subst (λ (h : List Act). IsRemoved h desk r.first) (sym (same_front r.begun acts (a ∷ []) (omega (arith, begun_inside)))) r.removed;
+          removed = subst (λ (h : List Act). IsRemoved h desk r.first) (sym (take-append-le r.begun acts (a ∷ []) (omega (arith, begun_inside)))) r.removed;
           barrier = r.barrier;
           scan = last_on _ r.begun r.barrier r.scan;
           cleaned = cleaned_on r.first r.barrier

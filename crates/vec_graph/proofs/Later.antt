@@ -21,11 +21,12 @@ use Rattle.vec_graph.specs.Graph.{node_at, IsLive, IsLiveAt, IsDoomed, IsDoomedA
 use Rattle.vec_graph.specs.Places.{Spot, IsOnBlocks}
 use Rattle.vec_graph.specs.Effect.{effect, after, changed, joined, linked, relisted, dropped, marked, kept}
 use Rattle.vec_graph.specs.Rules.{IsEventAllowed, IsPhaseAllowed, IsVacuumEndAllowed, IsCancelAllowed, IsDropAllowed, IsMarkAllowed, IsEntryAllowed, IsEntryAtAllowed, IsNoEntryAllowed, IsHintAllowed, IsThere}
-use Rattle.vec_graph.specs.Legal.{IsAllowed, IsLegal, IsLegalAfter}
+use Rattle.vec_history.specs.Legal.{IsLegalAfter}
+use Rattle.vec_graph.specs.Legal.{IsAllowed, IsLegal}
 use Rattle.vec_graph.specs.Asking.{StandsSo, KnowsEach, IsPutAsked, IsLinkAsked, IsRelistAsked, IsAsked}
-use Rattle.vec_graph.proofs.Prefixes.{cut_after, each_after, more_after}
+use Rattle.vec_history.proofs.Prefixes.{cut_after, each_after, more_after, rest_after}
 use Rattle.vec_graph.proofs.Placing.{free_place, same_list, on_effect}
-use Rattle.vec_graph.proofs.Levels.{after_append, rest_after, on_along}
+use Rattle.vec_graph.proofs.Levels.{after_append, on_along}
 use Rattle.vec_graph.proofs.Further.{in_longer, in_one_more, holds_on, holds_as_on, holds_back, phase_on, phase_back, removed_on, repaired_on, knows_on}
 use Rattle.vec_graph.proofs.Remaining.{Has, has_inserted, had_before, has_changed, had_changed, blocks_changed}
 
@@ -42,7 +43,7 @@ module _ (base : Graph) (acts : List Act) (legal : IsLegal base acts) (on : IsOn
   g' = effect 255 a.event g
 
   taken_by_rule : AreGatesAllowed acts
-  taken_by_rule n d gate hold is = each_after base [] acts n _ legal is
+  taken_by_rule n d gate hold is = each_after (IsAllowed base) [] acts n _ legal is
 
   -- ---- phases
 
@@ -466,14 +467,14 @@ module _ (base : Graph) (acts : List Act) (legal : IsLegal base acts) (on : IsOn
 
 -- ---- a history
 
-along : (base : Graph) (before acts : List Act) → IsLegal base before → IsLegalAfter base before acts → IsOnBlocks (after base before) → (desk : ℕ) (e : Event)
+along : (base : Graph) (before acts : List Act) → IsLegal base before → IsLegalAfter (IsAllowed base) before acts → IsOnBlocks (after base before) → (desk : ℕ) (e : Event)
     → ((k : ℕ) (a : Act) → slice_get acts k ≡ Some a → a.desk ≢ desk) → IsAsked base before desk e → IsAsked base (before ++ acts) desk e
 along base before [] was legal on desk e others asked = subst (λ h. IsAsked base h desk e) (sym (append-nil before)) asked
 along base before (a ∷ acts) was legal on desk e others asked =
     let one = sym (after_append base before (a ∷ [])) in
     let on_later = subst IsOnBlocks one (on_effect a.event (after base before) on) in
     let asked_later = one_on base before was on a legal.0 desk (others 0 a refl) e asked in
-    let legal_later : IsLegal base (before ++ a ∷ []) = more_after base [] before a was legal.0 in
+    let legal_later : IsLegal base (before ++ a ∷ []) = more_after (IsAllowed base) [] before a was legal.0 in
     subst (λ h. IsAsked base h desk e) (append_assoc before (a ∷ []) acts)
     (along base (before ++ a ∷ []) acts legal_later legal.1 on_later desk e (λ k b is. others (suc k) b is) asked_later)
 
@@ -490,5 +491,5 @@ pub later : (base : Graph) (acts : List Act) → IsLegal base acts → IsOnBlock
     → ((k : ℕ) (a : Act) → n ≤ k → slice_get acts k ≡ Some a → a.desk ≢ desk) → IsAsked base (take n acts) desk e → IsAsked base acts desk e
 later base acts legal on n desk e others asked =
     subst (λ h. IsAsked base h desk e) (take-append-drop n acts)
-    (along base (take n acts) (drop n acts) (cut_after base [] acts n legal) (rest_after base [] acts n legal) (on_along base (take n acts) on) desk e
+    (along base (take n acts) (drop n acts) (cut_after (IsAllowed base) [] acts n legal) (rest_after (IsAllowed base) [] acts n legal) (on_along base (take n acts) on) desk e
     (λ k a is. others (n + k) a (omega arith) (in_rest n acts k a is)) asked)

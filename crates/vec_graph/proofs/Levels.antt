@@ -15,7 +15,9 @@ use Rattle.vec_graph.specs.Graph.{node_at, HasLevel}
 use Rattle.vec_graph.specs.Places.{IsOnBlocks}
 use Rattle.vec_graph.specs.Effect.{effect, after, state_after, changed, changed_from, joined, linked, relisted, dropped, marked}
 use Rattle.vec_graph.specs.Rules.{IsEventAllowed}
-use Rattle.vec_graph.specs.Legal.{IsLegal, IsLegalAfter}
+use Rattle.vec_history.specs.Legal.{IsLegalAfter}
+use Rattle.vec_history.proofs.Prefixes.{rest_after}
+use Rattle.vec_graph.specs.Legal.{IsAllowed, IsLegal}
 use Rattle.vec_graph.proofs.Placing.{free_place, on_effect}
 
 -- ---- one event
@@ -73,7 +75,7 @@ pub after_append : (g : Graph) (acts more : List Act) → after g (acts ++ more)
 after_append g [] more = refl
 after_append g (a ∷ acts) more = after_append (effect 255 a.event g) acts more
 
-along : (base : Graph) (before acts : List Act) → IsLegalAfter base before acts → IsOnBlocks (after base before) → (q : Tid) (level : ℕ)
+along : (base : Graph) (before acts : List Act) → IsLegalAfter (IsAllowed base) before acts → IsOnBlocks (after base before) → (q : Tid) (level : ℕ)
     → HasLevel (after base before) q level → HasLevel (after base (before ++ acts)) q level
 along base before [] legal on q level has = subst (λ h. HasLevel (after base h) q level) (sym (append-nil before)) has
 along base before (a ∷ acts) legal on q level has =
@@ -81,12 +83,6 @@ along base before (a ∷ acts) legal on q level has =
     let on_later = subst IsOnBlocks one (on_effect a.event (after base before) on) in
     let has_later = subst (λ g. HasLevel g q level) one (on_event base before a.desk a.event legal.0 on q level has) in
     subst (λ h. HasLevel (after base h) q level) (append_assoc before (a ∷ []) acts) (along base (before ++ a ∷ []) acts legal.1 on_later q level has_later)
-
-pub rest_after : (base : Graph) (before acts : List Act) (n : ℕ) → IsLegalAfter base before acts → IsLegalAfter base (before ++ take n acts) (drop n acts)
-rest_after base before acts zero legal = subst (λ h. IsLegalAfter base h acts) (sym (append-nil before)) legal
-rest_after base before [] (suc n) legal = tt
-rest_after base before (a ∷ acts) (suc n) legal =
-    subst (λ h. IsLegalAfter base h (drop n acts)) (append_assoc before (a ∷ []) (take n acts)) (rest_after base (before ++ a ∷ []) acts n legal.1)
 
 pub on_along : (g : Graph) (acts : List Act) → IsOnBlocks g → IsOnBlocks (after g acts)
 on_along g [] on = on
@@ -96,4 +92,4 @@ pub level_stays : (base : Graph) (acts : List Act) (n : ℕ) (q : Tid) (level : 
     → HasLevel (state_after base acts n) q level → HasLevel (after base acts) q level
 level_stays base acts n q level legal on has =
     subst (λ h. HasLevel (after base h) q level) (take-append-drop n acts)
-    (along base (take n acts) (drop n acts) (rest_after base [] acts n legal) (on_along base (take n acts) on) q level has)
+    (along base (take n acts) (drop n acts) (rest_after (IsAllowed base) [] acts n legal) (on_along base (take n acts) on) q level has)

@@ -1,4 +1,3 @@
-pub mod Prefixes
 pub mod Entries
 pub mod Placing
 pub mod Levels

@@ -1,6 +1,7 @@
 -- Legal histories.
-use Rattle.std.specs.Prelude.{List, [], ◌∷◌, ◌++◌, ⊤}
+use Rattle.std.specs.Prelude.{List}
 use Rattle.vec_event.specs.declared.event.Act.{Act}
+use Rattle.vec_history.specs.Legal.{IsLegalBy}
 use Rattle.vec_graph.specs.declared.graph.Graph.{Graph}
 use Rattle.vec_graph.specs.Rules.{IsEventAllowed}
 
@@ -8,11 +9,6 @@ use Rattle.vec_graph.specs.Rules.{IsEventAllowed}
 abbrev pub IsAllowed : Graph → List Act → Act → Type 0
 IsAllowed base before a = IsEventAllowed base before a.desk a.event
 
--- each of these acts is allowed after those before it, of which the first ones are given
-abbrev pub IsLegalAfter : Graph → List Act → List Act → Type 0
-IsLegalAfter base before [] = ⊤
-IsLegalAfter base before (a ∷ acts) = IsAllowed base before a × IsLegalAfter base (before ++ a ∷ []) acts
-
 -- each act is allowed after the acts before it
 abbrev pub IsLegal : Graph → List Act → Type 0
-IsLegal base acts = IsLegalAfter base [] acts
+IsLegal base acts = IsLegalBy (IsAllowed base) acts

@@ -10,6 +10,5 @@ pub mod Legal
 pub mod Sound
 pub mod Asking
 pub mod Examples
-pub mod Judging
 pub mod Deciding
 pub mod Knowable

@@ -5,9 +5,8 @@ ghost use Rattle.vec_graph.specs.Effect.{effect, after};
 ghost use Rattle.vec_graph.specs.Course.{AreStates};
 ghost use Rattle.vec_graph.specs.Rules.{IsEventAllowed};
 ghost use Rattle.vec_graph.specs.Legal.{IsAllowed, IsLegal};
-ghost use Rattle.vec_graph.specs.Judging.{IsFaultOf};
+ghost use Rattle.vec_history.specs.Judging.{IsFaultOf};
 
-use crate::fault::AuditFault;
 use crate::graph::Graph;
 use crate::linking_rules::{last_of, may_enter, may_link, may_put, may_relist};
 use crate::node_rules::{may_drop, may_hint, may_join, may_mark};
@@ -15,13 +14,13 @@ use crate::places::Place;
 use crate::vacuum_rules::{may_begin, may_cancel, may_end};
 use std::alloc::{AllocError, Global};
 use vec_event::{Act, Event};
-use vec_history::{may_fault, may_give_back, may_settle, may_take};
+use vec_history::{AuditFault, may_fault, may_give_back, may_settle, may_take};
 
 /// Judges a history that begins at a graph: Illegal at the first act that the rules do not allow after those before it.
 /// It keeps the graph after each act, so it takes memory for as many graphs as there are acts.
 pub fn audit_hnsw(alloc: Global, base: &Graph, acts: &[Act]) -> Result<(), AuditFault>
     ensures legal { OnOk result (IsLegal base.now acts.now) }
-    ensures fault { IfErr result (IsFaultOf base.now acts.now) }
+    ensures fault { IfErr result (IsFaultOf (IsAllowed base.now) acts.now) }
 {
     let mut states = first_states(base, alloc)?;
     for k in 0..acts.len() {

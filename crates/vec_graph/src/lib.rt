@@ -7,14 +7,13 @@
 //! those definitions, and do no work. The others are the plain programs beside them: `changes` makes what an
 //! event makes of a graph, `places` finds where a new node stands, `node_rules`, `linking_rules` and
 //! `vacuum_rules` decide the rules, over what `knowing` and `cleaning` find in the graphs of a history, and
-//! `audit` judges a whole history. `Course`, `Judging`, `Deciding`, `Knowable` and `Spots` have the words of
-//! their contracts.
+//! `audit` judges a whole history. `Course`, `Deciding`, `Knowable` and `Spots` have the words of their
+//! contracts; what is legal by an index's rule, and what a judge's fault says, stands in `vec_history`.
 #![tactic(auto)]
 
 mod audit;
 mod changes;
 mod cleaning;
-mod fault;
 mod graph;
 mod knowing;
 mod law;
@@ -26,7 +25,6 @@ mod vacuum_rules;
 mod words;
 
 pub use audit::audit_hnsw;
-pub use fault::AuditFault;
 pub use graph::Graph;
 pub use law::{
     law_alone, law_asked, law_cut, law_entries, law_examples, law_first_insert, law_idle_vacuum,
@@ -34,6 +32,7 @@ pub use law::{
 };
 pub use node::Node;
 pub use places::Place;
+pub use vec_history::AuditFault;
 pub use words::{doomed_at, is_doomed, is_live, live_at};
 
 #[cfg(test)]

@@ -4,3 +4,4 @@ pub mod Alone
 pub mod Scans
 pub mod GateHolds
 pub mod Removing
+pub mod Prefixes

@@ -3,3 +3,5 @@ pub mod Gates
 pub mod Phases
 pub mod Settling
 pub mod Deciding
+pub mod Legal
+pub mod Judging

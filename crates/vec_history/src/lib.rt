@@ -8,11 +8,13 @@
 //! and do no work.
 #![tactic(auto)]
 
+mod fault;
 mod gates;
 mod law;
 mod phases;
 mod settling;
 
+pub use fault::AuditFault;
 pub use gates::{held, may_take};
 pub use law::{law_alone, law_one_at_a_time};
 pub use phases::{is_in_phase, last_barrier, may_begin_remove, may_give_back, phase, removed};

@@ -2,8 +2,8 @@ use Rattle.std.proofs.Common.{◌≡◌, ◌+◌, ◌∷◌, ◌++◌, [], List,
 use Rattle.std.proofs.lemmas.List.{take_more}
 use Rattle.vec_event.specs.declared.event.Act.{Act}
 use Rattle.vec_graph.specs.Course.{AreStates}
-use Rattle.vec_graph.specs.Legal.{IsLegal}
-use Rattle.vec_graph.proofs.Prefixes.{more_after}
+use Rattle.vec_graph.specs.Legal.{IsAllowed, IsLegal}
+use Rattle.vec_history.proofs.Prefixes.{more_after}
 use Rattle.vec_graph.proofs.audit.audit_hnsw.Goals as goal
 
 pub loop-k-preserved : goal.loop-k-preserved
@@ -16,6 +16,6 @@ loop-k-preserved c =
     take_more acts k act (omega arith) ∙ ap (λ (a : Act). take k acts ++ a ∷ []) (sym c.index-acts-k.is) in
     let may = c.is_allowed.ensures.0 c.if-not-is_allowed.false in
     record {
-      legal = subst (IsLegal base) (sym more) (more_after base [] (take k acts) act c.loop-k.invariant.legal may);
+      legal = subst (IsLegal base) (sym more) (more_after (IsAllowed base) [] (take k acts) act c.loop-k.invariant.legal may);
       are_states = subst (λ (h : List Act). AreStates base h c.add_state.new.states.items) (sym more) c.in_ok-add_state.ensures;
     }

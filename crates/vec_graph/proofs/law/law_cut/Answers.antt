@@ -1,4 +1,4 @@
-use Rattle.vec_graph.proofs.Prefixes.{cut_after, each_after, more_after}
+use Rattle.vec_history.proofs.Prefixes.{cut_after, each_after, more_after}
 use Rattle.vec_graph.proofs.law.law_cut.Goals as goal
 
 pub returns-clause-cut : goal.returns-clause-cut

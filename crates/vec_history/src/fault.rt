@@ -1,7 +1,7 @@
 //! Why a history was not judged legal.
 
 ghost use Rattle.std.specs.Prelude.{◌≡◌};
-ghost use Rattle.vec_graph.specs.declared.fault.AuditFault.TheVariants.{Memory};
+ghost use Rattle.vec_history.specs.declared.fault.AuditFault.TheVariants.{Memory};
 
 use std::alloc::{AllocError, AllocFailed};
 use thiserror::Error;
