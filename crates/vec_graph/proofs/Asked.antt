@@ -2,6 +2,7 @@
 use Rattle.std.proofs.Common.{◌≡◌, ◌≢◌, ℕ, ◌<◌, ◌≤◌, Bool, List, [], ◌∷◌, ◌++◌, length, Option, Some, None, refl, sym, ap, subst, ◌∙◌, arith}
 use Rattle.std.proofs.lemmas.Option.{same_Some}
 use Rattle.vec_names.specs.declared.tid.Tid.{Tid}
+use Rattle.vec_names.specs.Levels.{most_level}
 use Rattle.vec_names.specs.declared.params.Params.{Params}
 use Rattle.vec_event.specs.declared.event.Event.{Event}
 use Rattle.vec_event.specs.declared.event.Event.TheVariants.{Put, Join, Link, Relist, Drop, Mark, Entry, Hint, IvfAdd, IvfGrow, IvfDrop, IvfHint, Gate, Ungate, Phase, VacuumEnd, Cancel, Settled, DiskFaulted}
@@ -11,7 +12,7 @@ use Rattle.vec_graph.specs.declared.graph.Graph.{Graph}
 use Rattle.vec_graph.specs.Graph.{node_at, HasAllSlots, IsMember, slots_of_level, slot_layer}
 use Rattle.vec_graph.specs.Effect.{effect, after, joined, linked, relisted, dropped, marked}
 use Rattle.vec_graph.specs.Knowing.{Knows}
-use Rattle.vec_graph.specs.Rules.{IsEventAllowed, IsPutAllowed, IsLinkAllowed, IsRelistAllowed, KnowsMembers, most_level}
+use Rattle.vec_graph.specs.Rules.{IsEventAllowed, IsPutAllowed, IsLinkAllowed, IsRelistAllowed, KnowsMembers}
 use Rattle.vec_graph.specs.Asking.{StandsSo, KnowsEach, IsPutAsked, IsLinkAsked, IsRelistAsked, IsAsked, IsGranted, IsFresh, IsOfAll}
 use Rattle.vec_graph.proofs.Remaining.{params_changed}
 

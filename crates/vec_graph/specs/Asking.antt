@@ -2,6 +2,7 @@
 -- is as it was read and how many ids it has, whether there is room. What is asked holds on while other desks act.
 use Rattle.std.specs.Prelude.{◌≡◌, ◌≢◌, ℕ, ◌<◌, ◌≤◌, ⊤, List, Bool, length, Option, Some, None}
 use Rattle.vec_names.specs.declared.tid.Tid.{Tid}
+use Rattle.vec_names.specs.Levels.{most_level}
 use Rattle.vec_event.specs.declared.event.Event.{Event}
 use Rattle.vec_event.specs.declared.event.Event.TheVariants as event
 use Rattle.vec_event.specs.declared.event.Act.{Act}
@@ -16,7 +17,7 @@ use Rattle.vec_graph.specs.declared.graph.Graph.{Graph}
 use Rattle.vec_graph.specs.Graph.{node_at, slots_of_level, slot_layer, IsMember}
 use Rattle.vec_graph.specs.Effect.{after}
 use Rattle.vec_graph.specs.Knowing.{Knows}
-use Rattle.vec_graph.specs.Rules.{most_level, IsThere, IsPlaced, IsPhaseAllowed, IsVacuumEndAllowed, IsCancelAllowed, IsDropAllowed, IsMarkAllowed, IsEntryAllowed, IsHintAllowed}
+use Rattle.vec_graph.specs.Rules.{IsThere, IsPlaced, IsPhaseAllowed, IsVacuumEndAllowed, IsCancelAllowed, IsDropAllowed, IsMarkAllowed, IsEntryAllowed, IsHintAllowed}
 
 -- a node stands at the place, deleted or not, of this level and with its list there: as a look told it once
 pub record StandsSo (g : Graph) (at list_at : Tid) (level : ℕ) : Type 0 where

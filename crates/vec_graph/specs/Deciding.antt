@@ -1,10 +1,11 @@
 -- Words of parts of the functions that decide the rules.
 use Rattle.std.specs.Prelude.{◌≡◌, ℕ, ◌≤◌, Bool, List, length, Option}
 use Rattle.vec_names.specs.declared.tid.Tid.{Tid}
+use Rattle.vec_names.specs.Levels.{most_level}
 use Rattle.vec_graph.specs.declared.graph.Graph.{Graph}
 use Rattle.vec_graph.specs.Graph.{slots_of_level}
 use Rattle.vec_graph.specs.Places.{Spot}
-use Rattle.vec_graph.specs.Rules.{IsPlaced, most_level}
+use Rattle.vec_graph.specs.Rules.{IsPlaced}
 
 -- A new node of this level fits the graph at this place, by its value's length and by the number of its slots.
 pub record IsFitting (g : Graph) (spot : Spot) (level : ℕ) (bits : List Bool) (lists : List (Option Tid)) : Type 0 where

@@ -1,6 +1,7 @@
 -- Which event a desk may make after a list of acts: one word for each kind of event. A base is the graph that the acts begin at.
-use Rattle.std.specs.Prelude.{◌≡◌, ℕ, ◌+◌, ◌-◌, ◌/◌, ◌<◌, ◌≤◌, ◌^◌, ◌≢◌, ◌⊎◌, min, Bool, false, List, length, Option, Some, None}
+use Rattle.std.specs.Prelude.{◌≡◌, ℕ, ◌+◌, ◌<◌, ◌≤◌, ◌^◌, ◌≢◌, ◌⊎◌, Bool, false, List, length, Option, Some, None}
 use Rattle.vec_names.specs.declared.tid.Tid.{Tid}
+use Rattle.vec_names.specs.Levels.{most_level}
 use Rattle.vec_event.specs.declared.event.Event.{Event}
 use Rattle.vec_event.specs.declared.event.Event.TheVariants as event
 use Rattle.vec_event.specs.declared.event.Act.{Act}
@@ -40,10 +41,6 @@ pub record IsCancelAllowed (base : Graph) (acts : List Act) (desk : ℕ) (stage 
   pub not_done : IsVacuumEndAllowed base acts desk → ⊥
 
 -- ---- nodes
-
--- The highest level of a node: its neighbours fit one item of a page, and it one byte.
-abbrev pub most_level : ℕ → ℕ
-most_level m = min (1358 / m - 2) 255
 
 -- the desk knows each member of each layer up to that layer
 abbrev pub KnowsMembers : Graph → List Act → ℕ → ℕ → List (Option Tid) → Type 0

@@ -2,6 +2,7 @@
 
 ghost use Rattle.std.specs.Prelude.{◌≡◌, ◌≢◌, ◌⊎◌, ℕ, ◌++◌, ◌∷◌, [], true, false, take, slice_get, Some, None, List, Bool, Option, ◌≤◌, ◌↔◌, length, Contains};
 ghost use Rattle.vec_names.specs.declared.tid.Tid.{Tid as Tids};
+ghost use Rattle.vec_names.specs.Levels.{most_level};
 ghost use Rattle.vec_event.specs.declared.event.Act.{Act};
 ghost use Rattle.vec_event.specs.declared.event.Event.{Event as Events};
 ghost use Rattle.vec_graph.specs.Asking.{IsAsked, IsGranted, IsOfAll};
@@ -15,7 +16,7 @@ ghost use Rattle.vec_graph.specs.Graph.{HasAllSlots, IsLive, IsDoomed, HasLevel,
 ghost use Rattle.vec_graph.specs.Effect.{effect, after, state_after, kept, next_version, AreIdsChanged};
 ghost use Rattle.vec_history.specs.Gates.{HoldsAs};
 ghost use Rattle.vec_graph.specs.Places.{new_place, element_need, list_need, fits_one_page, IsOnBlocks, IsFree};
-ghost use Rattle.vec_graph.specs.Rules.{IsPutAllowed, IsEventAllowed, most_level};
+ghost use Rattle.vec_graph.specs.Rules.{IsPutAllowed, IsEventAllowed};
 ghost use Rattle.vec_graph.specs.Legal.{IsAllowed, IsLegal};
 ghost use Rattle.vec_graph.specs.Examples.{first_insert, idle_vacuum};
 ghost use Rattle.std.specs.FinMap as map;

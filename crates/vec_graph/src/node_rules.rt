@@ -10,7 +10,7 @@ ghost use Rattle.vec_graph.specs.Graph.{HasLevel, slots_of_level};
 ghost use Rattle.vec_graph.specs.Effect.{after};
 ghost use Rattle.vec_graph.specs.Deciding.{IsFitting};
 ghost use Rattle.vec_graph.specs.Spots.{spot_of};
-ghost use Rattle.vec_graph.specs.Rules.{IsThere, IsPlaced, most_level, IsPutAllowed, IsJoinAllowed, IsLinkAllowed, IsRelistAllowed, IsDropAllowed, IsMarkAllowed, IsEntryAtAllowed, IsNoEntryAllowed, IsEntryAllowed, IsHintAllowed};
+ghost use Rattle.vec_graph.specs.Rules.{IsThere, IsPlaced, IsPutAllowed, IsJoinAllowed, IsLinkAllowed, IsRelistAllowed, IsDropAllowed, IsMarkAllowed, IsEntryAtAllowed, IsNoEntryAllowed, IsEntryAllowed, IsHintAllowed};
 
 use crate::graph::Graph;
 use crate::node::Node;
@@ -19,7 +19,7 @@ use crate::words::is_doomed;
 use bit_code::Bits;
 use vec_event::{Act, Gate, Hold, Stage};
 use vec_history::{held, is_in_phase};
-use vec_names::{Listed, Tid};
+use vec_names::{Listed, Tid, most_level};
 
 pub(crate) fn holds(acts: &[Act], desk: u32, gate: Gate) -> bool
     ensures { IsTrue result ↔ Holds acts.now desk gate }
@@ -170,14 +170,6 @@ pub(crate) fn may_hint(base: &Graph, acts: &[Act], graph: &Graph, desk: u32, blo
     block >= 1 && block <= graph.blocks
 }
 
-// The highest level of a node.
-fn most_level(m: u16) -> u16
-    ensures { result ≡ most_level m }
-{
-    let fitting = if m == 0 { 0 } else { 1358 / m };
-    fitting.saturating_sub(2).min(255)
-}
-
 // Whether a new node of this level fits the graph at this place.
 pub(crate) fn fits(
     graph: &Graph,
@@ -190,7 +182,7 @@ pub(crate) fn fits(
 {
     bits.count() == graph.params.bits
         && has_slots_of(graph, level, lists)
-        && u16::from(level) <= most_level(graph.params.m)
+        && level <= most_level(graph.params.m)
         && is_placed(graph, place, level)
 }
 

@@ -1,3 +1,4 @@
 pub mod PlaceLaws
 pub mod Pointers
 pub mod Maps
+pub mod LevelLaws

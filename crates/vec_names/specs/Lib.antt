@@ -1,4 +1,5 @@
 pub mod Params
+pub mod Levels
 pub mod Order
 pub mod Places
 pub mod Pointer

@@ -25,6 +25,25 @@ fn lists(ops: Ops, lists: u32) -> Params {
 }
 
 #[test]
+fn levels_of_words(rt: HostRuntime) {
+    // 2^60 is 2^64 / 16, and 100^9 = 10^18 is below 2^64, where 100^10 is above.
+    let rows = [
+        (1_152_921_504_606_846_976, 16, 0),
+        (1_152_921_504_606_846_975, 16, 1),
+        (0, 2, 64),
+        (0, 100, 9),
+        (1, 2, 63),
+        (u64::MAX, 2, 0),
+        (0x8000_0000_0000_0000, 2, 0),
+        (0x7FFF_FFFF_FFFF_FFFF, 2, 1),
+    ];
+    for (word, m, level) in rows {
+        assert!(rt; level_of(word, m) == level);
+    }
+    assert!(rt; most_level(2) == 255 && most_level(16) == 82 && most_level(100) == 11);
+}
+
+#[test]
 fn parameters_in_range(rt: HostRuntime) {
     let rows = [
         (graph(2, 4), true),
