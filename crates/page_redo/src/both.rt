@@ -17,50 +17,36 @@ use crate::items::links_head_at;
 use crate::kinds::is_on_graph;
 use crate::lists::{chain, grow};
 use crate::put::{
-    are_old_links, element_long, is_node, is_old_element, item_long, links_long, new_head,
+    NewNode, are_old_links, element_long, is_node, is_old_element, item_long, links_long, new_head,
     place_element, place_links,
 };
 use bit_code::Bits;
 use page_bytes::Page;
-use vec_names::{HeapId, Params, Tid};
+use vec_names::{HeapId, Params};
 
 /// A new node: its element, and then its list, which is not at the same offset.
-pub fn put_both(
-    page: &mut Page,
-    params: &Params,
-    at: Tid,
-    list_at: Tid,
-    version: u8,
-    level: u8,
-    id: HeapId,
-    bits: &Bits,
-    lists: &[Option<Tid>],
-) -> Result<(), RedoFault>
+pub fn put_both(page: &mut Page, params: &Params, node: NewNode) -> Result<(), RedoFault>
     requires { IsInRange params.now }
-    ensures { Becomes (option_and_then (put_links params.now list_at version level bits.now lists.now) (put_element params.now at list_at version level id bits.now lists.now page.old)) page.old page.new result }
+    ensures { Becomes (option_and_then (put_links params.now node.entry.list_at node.entry.version node.entry.level node.entry.bits.now node.entry.lists.now) (put_element params.now node.entry.at node.entry.list_at node.entry.version node.entry.level node.entry.id node.entry.bits.now node.entry.lists.now page.old)) page.old page.new result }
 {
-    if at.off == list_at.off {
+    let off = node.at.off;
+    let list_off = node.list_at.off;
+    if off == list_off {
         return Err(RedoFault::Unfit);
     }
-    if !is_on_graph(page, params) || !is_node(params, version, level, bits, lists) {
+    if !is_on_graph(page, params) || !is_node(params, node) {
         return Err(RedoFault::Unfit);
     }
-    let may_go = is_old_element(page, params, at.off, version);
-    let list_may_go = are_old_links(page, params, list_at.off, version);
-    let long = element_long(bits);
-    if !fits_after(
-        page,
-        at.off,
-        long,
-        list_at.off,
-        list_may_go,
-        links_long(lists),
-    ) {
+    let may_go = is_old_element(page, params, off, node.version);
+    let list_may_go = are_old_links(page, params, list_off, node.version);
+    let long = element_long(node.bits);
+    let list_long = links_long(node.lists);
+    if !fits_after(page, off, long, list_off, list_may_go, list_long) {
         return Err(RedoFault::Unfit);
     }
-    let head = new_head(list_at, version, level, id);
-    place_element(page, at.off, may_go, &head, bits)?;
-    place_links(page, list_at.off, list_may_go, version, lists)
+    let head = new_head(node.list_at, node.version, node.level, node.id);
+    place_element(page, off, may_go, &head, node.bits)?;
+    place_links(page, list_off, list_may_go, node.version, node.lists)
 }
 
 /// Whether an item of so many bytes can be put at an offset, once another one is put at another offset.

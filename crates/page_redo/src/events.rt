@@ -9,7 +9,7 @@ use crate::both::{grow_both, mark_both, put_both};
 use crate::fault::RedoFault;
 use crate::graph::{drop_ids, empty, enter, hint, join, link, mark, relist};
 use crate::lists::{add_entry, aim, chain, drop_entries, grow};
-use crate::put::{put_element, put_links};
+use crate::put::{NewNode, put_element, put_links};
 use bit_code::Bits;
 use page_bytes::Page;
 use vec_event::Event;
@@ -60,13 +60,15 @@ fn change(
             page,
             params,
             block,
-            *at,
-            *list_at,
-            *version,
-            *level,
-            *id,
-            bits,
-            lists.as_slice(),
+            NewNode {
+                at: *at,
+                list_at: *list_at,
+                version: *version,
+                level: *level,
+                id: *id,
+                bits,
+                lists: lists.as_slice(),
+            },
         ),
         Event::Join { at, version, id } => join(page, params, block, *at, *version, *id),
         Event::Link {
@@ -115,31 +117,20 @@ fn change(
 }
 
 /// A new node, where both of its tuples stand on the block or one of them does.
-fn put_node(
-    page: &mut Page,
-    params: &Params,
-    block: u32,
-    at: Tid,
-    list_at: Tid,
-    version: u8,
-    level: u8,
-    id: HeapId,
-    bits: &Bits,
-    lists: &[Option<Tid>],
-) -> Result<(), RedoFault>
+fn put_node(page: &mut Page, params: &Params, block: u32, node: NewNode) -> Result<(), RedoFault>
     requires { IsInRange params.now }
-    ensures { Becomes (at_two at.block (put_element params.now at list_at version level id bits.now lists.now) list_at.block (put_links params.now list_at version level bits.now lists.now) block page.old) page.old page.new result }
+    ensures { Becomes (at_two node.entry.at.block (put_element params.now node.entry.at node.entry.list_at node.entry.version node.entry.level node.entry.id node.entry.bits.now node.entry.lists.now) node.entry.list_at.block (put_links params.now node.entry.list_at node.entry.version node.entry.level node.entry.bits.now node.entry.lists.now) block page.old) page.old page.new result }
 {
-    if at.block != block {
-        if list_at.block != block {
+    if node.at.block != block {
+        if node.list_at.block != block {
             return Err(RedoFault::Unfit);
         }
-        return put_links(page, params, list_at, version, level, bits, lists);
+        return put_links(page, params, node);
     }
-    if list_at.block != block {
-        return put_element(page, params, at, list_at, version, level, id, bits, lists);
+    if node.list_at.block != block {
+        return put_element(page, params, node);
     }
-    put_both(page, params, at, list_at, version, level, id, bits, lists)
+    put_both(page, params, node)
 }
 
 /// A node is deleted, where both of its tuples stand on the block or one of them does.

@@ -57,15 +57,27 @@ fn put_behind(page: &mut Page, off: u16, x: &[u8]) -> Result<(), RedoFault>
     append(page, x)
 }
 
+/// A new node, as its event tells it.
+#[derive(Clone, Copy)]
+pub struct NewNode<'a> {
+    pub at: Tid,
+    pub list_at: Tid,
+    pub version: u8,
+    pub level: u8,
+    pub id: HeapId,
+    pub bits: &'a Bits,
+    pub lists: &'a [Option<Tid>],
+}
+
 /// Whether a node of this version and level, with so many places and slots, has tuples.
-pub fn is_node(params: &Params, version: u8, level: u8, bits: &Bits, lists: &[Option<Tid>]) -> bool
+pub fn is_node(params: &Params, node: NewNode) -> bool
     requires { IsInRange params.now }
-    ensures { result ≡ is_node params.now version level bits.now lists.now }
+    ensures { result ≡ is_node params.now node.entry.version node.entry.level node.entry.bits.now node.entry.lists.now }
 {
-    version >= 1
-        && bits.count() == params.bits
-        && lists.len() == slots_of(level, params.m)
-        && lists.len() <= 1358
+    node.version >= 1
+        && node.bits.count() == params.bits
+        && node.lists.len() == slots_of(node.level, params.m)
+        && node.lists.len() <= 1358
 }
 
 /// How many slots a node of this level has.
@@ -206,55 +218,26 @@ fn links_behind(
 }
 
 /// The element of a new node, with one id.
-pub fn put_element(
-    page: &mut Page,
-    params: &Params,
-    at: Tid,
-    list_at: Tid,
-    version: u8,
-    level: u8,
-    id: HeapId,
-    bits: &Bits,
-    lists: &[Option<Tid>],
-) -> Result<(), RedoFault>
+pub fn put_element(page: &mut Page, params: &Params, node: NewNode) -> Result<(), RedoFault>
     requires { IsInRange params.now }
-    ensures { Becomes (put_element params.now at list_at version level id bits.now lists.now page.old) page.old page.new result }
+    ensures { Becomes (put_element params.now node.entry.at node.entry.list_at node.entry.version node.entry.level node.entry.id node.entry.bits.now node.entry.lists.now page.old) page.old page.new result }
 {
-    if !is_on_graph(page, params) {
+    if !is_on_graph(page, params) || !is_node(params, node) {
         return Err(RedoFault::Unfit);
     }
-    if !is_node(params, version, level, bits, lists) {
-        return Err(RedoFault::Unfit);
-    }
-    let may_go = is_old_element(page, params, at.off, version);
-    place_element(
-        page,
-        at.off,
-        may_go,
-        &new_head(list_at, version, level, id),
-        bits,
-    )
+    let may_go = is_old_element(page, params, node.at.off, node.version);
+    let head = new_head(node.list_at, node.version, node.level, node.id);
+    place_element(page, node.at.off, may_go, &head, node.bits)
 }
 
 /// The neighbour tuple of a new node.
-pub fn put_links(
-    page: &mut Page,
-    params: &Params,
-    list_at: Tid,
-    version: u8,
-    level: u8,
-    bits: &Bits,
-    lists: &[Option<Tid>],
-) -> Result<(), RedoFault>
+pub fn put_links(page: &mut Page, params: &Params, node: NewNode) -> Result<(), RedoFault>
     requires { IsInRange params.now }
-    ensures { Becomes (put_links params.now list_at version level bits.now lists.now page.old) page.old page.new result }
+    ensures { Becomes (put_links params.now node.entry.list_at node.entry.version node.entry.level node.entry.bits.now node.entry.lists.now page.old) page.old page.new result }
 {
-    if !is_on_graph(page, params) {
+    if !is_on_graph(page, params) || !is_node(params, node) {
         return Err(RedoFault::Unfit);
     }
-    if !is_node(params, version, level, bits, lists) {
-        return Err(RedoFault::Unfit);
-    }
-    let may_go = are_old_links(page, params, list_at.off, version);
-    place_links(page, list_at.off, may_go, version, lists)
+    let may_go = are_old_links(page, params, node.list_at.off, node.version);
+    place_links(page, node.list_at.off, may_go, node.version, node.lists)
 }
