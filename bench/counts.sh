@@ -2,11 +2,10 @@
 # How many bytes a second `count_unequal` reads, beside a plain Rust loop over u64 words. Not part of the gate.
 # usage: bench/counts.sh, at the top of the repository; it needs rustc beside the kit, and some minutes the first time.
 set -eu
-top="$(pwd)"
+. bench/program.sh
 work="${COUNTS_FOLDER:-$(mktemp -d)}"
-mkdir -p "$work/crates/count_bench/src"
-cp -r "$top/crates/bit_code" "$work/crates/"
-cat > "$work/crates/count_bench/src/main.rt" <<'RATTLE'
+first="256 64 1"
+bench_program count_bench u64 bit_code <<'RATTLE'
 //! Counts unequal places: 64,000 values of 256 places or so against one of them, some rounds, and prints the sum.
 //! Words: the places of a value, the number of values, the rounds. Not read by the gate.
 #![tactic(auto)]
@@ -14,17 +13,6 @@ cat > "$work/crates/count_bench/src/main.rt" <<'RATTLE'
 use bit_code::{count_unequal, is_packed, Bits};
 use std::alloc::Global;
 use std::process::ExitCode;
-
-fn main(rt: HostRuntime) -> ExitCode {
-    let answer = answer(&rt);
-    if answer.is_none() {
-        return ExitCode::FAILURE;
-    }
-    match println!(rt; "{}", answer.unwrap_or(0)) {
-        Ok(()) => ExitCode::SUCCESS,
-        Err(_) => ExitCode::FAILURE,
-    }
-}
 
 fn answer(rt: &HostRuntime) -> Option<u64> {
     let mut words = std::env::args(rt).ok()?.skip(1);
@@ -86,11 +74,8 @@ fn main() {
     println!("{sum}");
 }
 RUST
-printf 'bit_code: thiserror\ncount_bench: bit_code\n' > "$work/crates.txt"
-[ -d "$work/.git" ] || git -C "$work" init -q
-(cd "$work/crates/count_bench" && rt run -- 256 64 1)
 rustc -O -C target-cpu=x86-64-v2 --edition 2021 -o "$work/plain" "$work/plain.rs"
-python3 - "$work/crates/count_bench/out/count_bench" "$work/plain" <<'P'
+python3 - "$program" "$work/plain" <<'P'
 import subprocess, sys, time
 names, programs = ["count_unequal", "plain Rust"], sys.argv[1:3]
 def taken(program, places, values, rounds):

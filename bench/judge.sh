@@ -2,11 +2,10 @@
 # How long `audit_hnsw` takes over a history of 55 inserts. Not part of the gate.
 # usage: bench/judge.sh, at the top of the repository; it needs some minutes the first time.
 set -eu
-top="$(pwd)"
+. bench/program.sh
 work="${JUDGE_FOLDER:-$(mktemp -d)}"
-mkdir -p "$work/crates/judge_bench/src"
-for crate in vec_names bit_code vec_event vec_history vec_graph; do cp -r "$top/crates/$crate" "$work/crates/"; done
-cat > "$work/crates/judge_bench/src/main.rt" <<'RATTLE'
+first="2 1"
+bench_program judge_bench usize vec_names bit_code vec_event vec_history vec_graph <<'RATTLE'
 //! Makes a legal history of so many inserts, each with some links, judges it some rounds, and prints how many acts it has.
 //! Words: the inserts, the rounds. Not read by the gate.
 #![tactic(auto)]
@@ -17,17 +16,6 @@ use std::process::ExitCode;
 use vec_event::{Act, Event, Gate, Hold};
 use vec_graph::{Graph, Place, audit_hnsw};
 use vec_names::{HeapId, Kind, Listed, Mapped, Ops, Params, Tid};
-
-fn main(rt: HostRuntime) -> ExitCode {
-    let answer = answer(&rt);
-    if answer.is_none() {
-        return ExitCode::FAILURE;
-    }
-    match println!(rt; "{}", answer.unwrap_or(0)) {
-        Ok(()) => ExitCode::SUCCESS,
-        Err(_) => ExitCode::FAILURE,
-    }
-}
 
 fn answer(rt: &HostRuntime) -> Option<usize> {
     let mut words = std::env::args(rt).ok()?.skip(1);
@@ -121,17 +109,6 @@ fn make(alloc: Global, graph: &mut Graph, acts: &mut Vec<Act>, event: Event) -> 
     Some(())
 }
 RATTLE
-cat > "$work/crates.txt" <<'CRATES'
-vec_names:
-bit_code: thiserror
-vec_event: vec_names bit_code thiserror
-vec_history: vec_names vec_event
-vec_graph: vec_names bit_code vec_event vec_history thiserror
-judge_bench: vec_names bit_code vec_event vec_graph
-CRATES
-[ -d "$work/.git" ] || git -C "$work" init -q
-(cd "$work/crates/judge_bench" && rt run -- 2 1)
-program="$work/crates/judge_bench/out/judge_bench"
 for rounds in 0 1 10; do
     start=$(date +%s.%N)
     acts=$("$program" 55 "$rounds")
