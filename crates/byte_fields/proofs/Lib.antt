@@ -1,0 +1,4 @@
+pub mod Clear
+pub mod FieldLaws
+pub mod EachField
+pub mod Loops
