@@ -1,11 +1,13 @@
--- Reading values one after the other, as a loop does.
-use Rattle.std.proofs.Common.{◌≡◌, ℕ, suc, ◌-◌, ◌+◌, ◌≤◌, ◌<◌, List, [], ◌∷◌, ◌++◌, refl, sym, ap, ◌∙◌, append_assoc, arith}
+-- What calls say that stopped, and reading values one after the other, as a loop does.
+use Rattle.std.proofs.Common.{◌≡◌, ℕ, suc, ◌-◌, ◌+◌, ◌≤◌, ◌<◌, List, [], ◌∷◌, ◌++◌, refl, sym, ap, subst, ◌∙◌, append_assoc, arith}
 use Rattle.std.proofs.lemmas.List.{append-nil}
 use Rattle.byte_fields.specs.declared.stop.Cause.{Cause}
 use Rattle.byte_fields.specs.declared.stop.Cause.TheVariants as causes
 use Rattle.byte_fields.specs.declared.stop.Stop.{Stop}
+use Rattle.byte_fields.specs.declared.stop.Halt.{Halt}
+use Rattle.byte_fields.specs.declared.stop.Halt.TheVariants as halts
 use Rattle.byte_fields.specs.Reading.{Read, Got, Bad, Short, Reader, ◌>>=◌, as_bad, times}
-use Rattle.byte_fields.specs.Answers.{stopped_by, stopped}
+use Rattle.byte_fields.specs.Answers.{stopped_by, stopped, Halts}
 
 -- what stopped so has no value, and is bad there where the end of the bytes is
 stopped_bad : {A : Type 0} (cause : Cause) (left : ℕ) → as_bad {A = A} (stopped_by cause left) ≡ Bad left
@@ -14,6 +16,13 @@ stopped_bad causes.Short left = refl
 
 pub stops_bad : {A : Type 0} (read : Read A) (stop : Stop) → read ≡ stopped stop → as_bad read ≡ Bad stop.left
 stops_bad read stop is = ap (λ r. as_bad r) is ∙ stopped_bad stop.cause stop.left
+
+-- what a call that takes memory says, where it told a stop
+pub halts_at : {A : Type 0} (read : Read A) (halt : Halt) (stop : Stop) → halt ≡ halts.Stopped stop → Halts halt read → read ≡ stopped stop
+halts_at read halt stop is why = subst (λ h. Halts h read) is why
+
+pub stops_at : {A : Type 0} (read : Read A) (stop : Stop) (cause : Cause) → stop.cause ≡ cause → read ≡ stopped stop → read ≡ stopped_by cause stop.left
+stops_at read stop cause why is = is ∙ ap (λ k. stopped_by k stop.left) why
 
 stopped_on : {A B : Type 0} (cause : Cause) (left : ℕ) (f : A → List ℕ → Read B) → (stopped_by cause left >>= f) ≡ stopped_by cause left
 stopped_on causes.Bad left f = refl

@@ -1,4 +1,5 @@
 -- The element tuple is read as it is spelled.
+use Rattle.std.specs.Prelude.{⊤}
 use Rattle.std.proofs.Common.{◌≡◌, ℕ, zero, suc, ◌+◌, ◌/◌, Bool, true, false, eqb, List, [], ◌∷◌, ◌++◌, length, drop, replicate, refl, sym, ap, subst, ◌∙◌, arith, lit≤, lit<}
 use Rattle.std.specs.Int.{w16, to_le_bytes}
 use Rattle.std.proofs.lemmas.List.{length-replicate, length-append, drop_at}
@@ -12,8 +13,9 @@ use Rattle.vec_tuples.specs.declared.element.Element.{Element}
 use Rattle.vec_tuples.specs.declared.element.ElementHead.{ElementHead}
 use Rattle.vec_tuples.specs.Spelling.{bits_bytes, deleted_byte, rows_bytes, head_with, element_with, head_of_element, head_bytes, element_bytes, beside, IsEmptyIf, IsHead, IsElement}
 use Rattle.vec_tuples.specs.Reading.{head, element, value_of}
-use Rattle.vec_tuples.proofs.FieldLaws.{IsField, next_law, viewed_law, after_law, then_law, wider}
-use Rattle.vec_tuples.proofs.EachField.{IsFrom, IsValueOf, one_byte, byte_field, two_bytes_field, place_field, value_of_field}
+use Rattle.byte_fields.proofs.FieldLaws.{IsField, next_law, viewed_law, after_law, then_law, wider}
+use Rattle.byte_fields.proofs.EachField.{IsFrom, one_byte, byte_field, two_bytes_field, place_field}
+use Rattle.vec_tuples.proofs.EachField.{IsValueOf, value_of_field}
 use Rattle.vec_tuples.proofs.RowPlaces.{AreRows, rows_field, length-rows_bytes}
 
 -- ---- the head
@@ -43,7 +45,7 @@ head_text kind level d version ids at none is_kind is_deleted is_zero =
 same_head : (h : ElementHead) → head_with h.level (eqb (deleted_byte h.deleted) 1) h.version h.ids.items h.list_at ≡ h
 same_head h = ap (λ d. head_with h.level d h.version h.ids.items h.list_at) (deleted_back h.deleted)
 
-pub head_field : IsField head head_bytes IsHead 72
+pub head_field : IsField ⊤ head head_bytes IsHead 72
 unfolding head
 head_field =
     viewed_law _ _
@@ -76,7 +78,7 @@ value_cleared : (deleted : Bool) (count : ℕ) (bits : List Bool) → IsValueOf 
 value_cleared false count bits is = refl
 value_cleared true count bits is = is ∙ ap (λ n. replicate n false) (sym (value_long true count bits is))
 
-pub element_field : (p : Params) → IsInRange p → IsField (element p) element_bytes (IsElement p) 8080
+pub element_field : (p : Params) → IsInRange p → IsField ⊤ (element p) element_bytes (IsElement p) 8080
 unfolding element element_bytes
 element_field p r =
     wider (72 + (8 + (p.bits + 7) / 8)) 8080 (omega (arith, r.bits_high))

@@ -1,4 +1,3 @@
-pub mod FieldLaws
 pub mod EachField
 pub mod MetaLaws
 pub mod Wholes
@@ -10,4 +9,3 @@ pub mod SlotPlaces
 pub mod RowPlaces
 pub mod ElementLaws
 pub mod PackedAt
-pub mod Loops

@@ -1,4 +1,5 @@
 -- The neighbour tuple is read as it is spelled.
+use Rattle.std.specs.Prelude.{⊤}
 use Rattle.std.proofs.Common.{◌≡◌, ℕ, zero, suc, ◌*◌, ◌≤◌, Bool, true, false, eqb, List, ◌∷◌, ◌++◌, length, Option, refl, sym, ap, ap₂, subst, ◌∙◌, arith, lit≤}
 use Rattle.std.specs.List.{flat_map, AllByRecursion}
 use Rattle.std.specs.Int.{w16, to_le_bytes}
@@ -10,10 +11,11 @@ use Rattle.vec_names.specs.Params.{IsInRange, IsInRangeOf}
 use Rattle.vec_names.specs.Pointer.{tid_option_bytes}
 use Rattle.vec_tuples.specs.declared.links.Links.{Links}
 use Rattle.vec_tuples.specs.Spelling.{links_kind, links_with, links_bytes, IsSlotCount, IsSlotOf, IsLinks}
-use Rattle.vec_tuples.specs.Reading.{slot_of, links}
-use Rattle.vec_tuples.proofs.FieldLaws.{IsField, viewed_law, after_law, then_law, wider}
-use Rattle.vec_tuples.proofs.EachField.{IsFrom, one_byte, byte_field}
-use Rattle.vec_tuples.proofs.SlotLaws.{slot_field, times_field, count_field}
+use Rattle.vec_tuples.specs.Reading.{links}
+use Rattle.byte_fields.proofs.FieldLaws.{IsField, viewed_law, after_law, then_law, wider}
+use Rattle.byte_fields.specs.Reading.{slot_of}
+use Rattle.byte_fields.proofs.EachField.{IsFrom, one_byte, byte_field, slot_field, times_field}
+use Rattle.vec_tuples.proofs.SlotLaws.{count_field}
 
 few_slots : (k : Kind) (p : Params) → IsInRangeOf k p → p.m ≤ 100
 few_slots Hnsw p r = r.m_high
@@ -43,7 +45,7 @@ links_text k version count tids p len =
 same_links : (l : Links) → links_with (eqb (links_kind l.deleted) 3) l.version l.tids ≡ l
 same_links l = ap (λ d. links_with d l.version l.tids) (kind_back l.deleted)
 
-pub links_field : (p : Params) → IsInRange p → IsField (links p) links_bytes (IsLinks p) 8152
+pub links_field : (p : Params) → IsInRange p → IsField ⊤ (links p) links_bytes (IsLinks p) 8152
 unfolding links
 links_field p r =
     viewed_law _ _

@@ -1,4 +1,5 @@
 -- The meta tuple is read as it is spelled.
+use Rattle.std.specs.Prelude.{⊤}
 use Rattle.std.proofs.Common.{◌≡◌, ℕ, ◌*◌, Bool, true, false, cond, eqb, List, [], ◌∷◌, ◌++◌, length, Option, Some, None, refl, sym, ap, ◌∙◌, arith, lit≤, lit<}
 use Rattle.std.specs.Prelude.{slice_index}
 use Rattle.std.specs.Int.{w16, w32, to_le_bytes}
@@ -12,9 +13,9 @@ use Rattle.vec_names.specs.declared.params.Params.{Params}
 use Rattle.vec_names.specs.Params.{IsInRange, IsInRangeOf}
 use Rattle.vec_names.specs.Pointer.{tid_option_bytes}
 use Rattle.vec_tuples.specs.Spelling.{magic, kind_byte, ops_byte, params_bytes, meta_bytes, IsLevelOf, IsEntryOf, IsHintOf, IsMeta}
-use Rattle.vec_tuples.specs.Reading.{kind_in, kind, ops_in, ops_of, m_of, ef_of, lists_of, params, entry_of, level_of, hint_of, meta}
-use Rattle.vec_tuples.proofs.FieldLaws.{IsField, field_law, viewed_law, after_law, then_law}
-use Rattle.vec_tuples.proofs.EachField.{some_is, IsFrom, one_byte, byte_field, two_bytes_field, four_bytes_field, optional_field, none_field}
+use Rattle.vec_tuples.specs.Reading.{kind_in, kind, ops_in, ops_of, m_of, ef_of, lists_of, params, entry_of, hint_of, meta}
+use Rattle.byte_fields.proofs.FieldLaws.{IsField, field_law, viewed_law, after_law, then_law}
+use Rattle.byte_fields.proofs.EachField.{FitsLevel, level_field, some_is, IsFrom, one_byte, byte_field, two_bytes_field, four_bytes_field, optional_place_field, no_place_field}
 
 -- ---- kinds and distances
 
@@ -41,11 +42,11 @@ kind_only : (k : Kind) (byte : ℕ) → kind_in byte ≡ Some k → byte ≡ kin
 unfolding kind_in
 kind_only k byte is = two_codes kind_byte Hnsw Ivf k byte _ _ refl refl refl refl is
 
-kind_field : IsField kind (λ k. one_byte (kind_byte k)) (λ _. Unit {0}) 1
+kind_field : IsField ⊤ kind (λ k. one_byte (kind_byte k)) (λ _. ⊤) 1
 unfolding kind
-kind_field = field_law 1 (λ b. kind_in (slice_index b 0)) (λ k. one_byte (kind_byte k)) (λ _. Unit {0}) (record {
+kind_field = field_law ⊤ 1 (λ b. kind_in (slice_index b 0)) (λ k. one_byte (kind_byte k)) (λ _. ⊤) (record {
   some = lit≤ tt;
-  inhabited = (Hnsw, tt);
+  inhabited = λ _. (Hnsw, tt);
   long = λ k _. refl;
   meant_by = λ k _. kind_again k;
   only = λ bytes k len bs is. (single kind_in kind_byte bytes k (kind_only k) len is, tt);
@@ -70,11 +71,11 @@ hamming_of : (k : Kind) → IsOpsOf k Hamming
 hamming_of Hnsw = tt
 hamming_of Ivf = refl
 
-ops_field : (k : Kind) → IsField (ops_of k) (λ o. one_byte (ops_byte o)) (IsOpsOf k) 1
+ops_field : (k : Kind) → IsField ⊤ (ops_of k) (λ o. one_byte (ops_byte o)) (IsOpsOf k) 1
 unfolding ops_of
-ops_field k = field_law 1 (λ b. ops_in k (slice_index b 0)) (λ o. one_byte (ops_byte o)) (IsOpsOf k) (record {
+ops_field k = field_law ⊤ 1 (λ b. ops_in k (slice_index b 0)) (λ o. one_byte (ops_byte o)) (IsOpsOf k) (record {
   some = lit≤ tt;
-  inhabited = (Hamming, hamming_of k);
+  inhabited = λ _. (Hamming, hamming_of k);
   long = λ o _. refl;
   meant_by = λ o fits. ops_again k o fits;
   only = λ bytes o len bs is. (single (ops_in k) ops_byte bytes o (λ b e. (ops_only k o b e).0) len is, (ops_only k o (slice_index bytes 0) is).1);
@@ -86,7 +87,7 @@ abbrev IsMOf : Kind → ℕ → Type 0
 IsMOf Hnsw m = IsFrom 2 100 m
 IsMOf Ivf m = IsFrom 0 0 m
 
-m_field : (k : Kind) → IsField (m_of k) (to_le_bytes w16) (IsMOf k) 2
+m_field : (k : Kind) → IsField ⊤ (m_of k) (to_le_bytes w16) (IsMOf k) 2
 unfolding m_of
 m_field Hnsw = two_bytes_field 2 100 (lit≤ tt) (lit< tt)
 m_field Ivf = two_bytes_field 0 0 (lit≤ tt) (lit< tt)
@@ -95,7 +96,7 @@ abbrev IsEfOf : Kind → ℕ → ℕ → Type 0
 IsEfOf Hnsw m ef = IsFrom (2 * m) 1000 ef
 IsEfOf Ivf m ef = IsFrom 0 0 ef
 
-ef_field : (k : Kind) (m : ℕ) → IsMOf k m → IsField (ef_of k m) (to_le_bytes w16) (IsEfOf k m) 2
+ef_field : (k : Kind) (m : ℕ) → IsMOf k m → IsField ⊤ (ef_of k m) (to_le_bytes w16) (IsEfOf k m) 2
 unfolding ef_of
 ef_field Hnsw m p = two_bytes_field (2 * m) 1000 (omega (arith, p.1)) (lit< tt)
 ef_field Ivf m p = two_bytes_field 0 0 (lit≤ tt) (lit< tt)
@@ -104,7 +105,7 @@ abbrev IsCountOf : Kind → ℕ → Type 0
 IsCountOf Hnsw lists = IsFrom 0 0 lists
 IsCountOf Ivf lists = IsFrom 1 32768 lists
 
-lists_field : (k : Kind) → IsField (lists_of k) (to_le_bytes w32) (IsCountOf k) 4
+lists_field : (k : Kind) → IsField ⊤ (lists_of k) (to_le_bytes w32) (IsCountOf k) 4
 unfolding lists_of
 lists_field Hnsw = four_bytes_field 0 0 (lit≤ tt) (lit< tt)
 lists_field Ivf = four_bytes_field 1 32768 (lit≤ tt) (lit< tt)
@@ -134,7 +135,7 @@ range_fits : (k : Kind) (p : Params) → IsInRangeOf k p → IsOpsOf k p.ops × 
 range_fits Hnsw p r = (tt, (r.m_low, r.m_high), (r.ef_twice_m, r.ef_high), (omega arith, omega (arith, r.no_lists)))
 range_fits Ivf p r = (r.hamming, (omega arith, omega (arith, r.no_m)), (omega arith, omega (arith, r.no_ef)), (r.lists_low, r.lists_high))
 
-pub params_field : IsField params params_bytes IsInRange 14
+pub params_field : IsField ⊤ params params_bytes IsInRange 14
 unfolding params
 params_field =
     viewed_law _ _
@@ -147,33 +148,24 @@ params_field =
 
 -- ---- entry, level and hint
 
-entry_field : (k : Kind) → IsField (entry_of k) tid_option_bytes (IsEntryOf k) 6
+entry_field : (k : Kind) → IsField ⊤ (entry_of k) tid_option_bytes (IsEntryOf k) 6
 unfolding entry_of
-entry_field Hnsw = optional_field
-entry_field Ivf = none_field
-
-abbrev FitsLevel : Option Tid → ℕ → Type 0
-FitsLevel None level = IsFrom 0 0 level
-FitsLevel (Some at) level = IsFrom 0 255 level
-
-level_field : (e : Option Tid) → IsField (level_of e) one_byte (FitsLevel e) 1
-unfolding level_of
-level_field None = byte_field 0 0 (lit≤ tt)
-level_field (Some at) = byte_field 0 255 (lit≤ tt)
+entry_field Hnsw = optional_place_field
+entry_field Ivf = no_place_field
 
 level_fits : (e : Option Tid) (level : ℕ) → IsLevelOf e level → FitsLevel e level
-level_fits None level is = (omega arith, omega (arith, is))
-level_fits (Some at) level is = (omega arith, omega (arith, is))
+level_fits None level is = is
+level_fits (Some at) level is = is
 
 fits_level : (e : Option Tid) (level : ℕ) → FitsLevel e level → IsLevelOf e level
-fits_level None level fits = omega (arith, fits.1)
-fits_level (Some at) level fits = omega (arith, fits.1)
+fits_level None level fits = fits
+fits_level (Some at) level fits = fits
 
 abbrev FitsHint : Kind → ℕ → Type 0
 FitsHint Hnsw hint = IsFrom 1 32768 hint
 FitsHint Ivf hint = IsFrom 0 0 hint
 
-hint_field : (k : Kind) → IsField (hint_of k) (to_le_bytes w32) (FitsHint k) 4
+hint_field : (k : Kind) → IsField ⊤ (hint_of k) (to_le_bytes w32) (FitsHint k) 4
 unfolding hint_of
 hint_field Hnsw = four_bytes_field 1 32768 (lit≤ tt) (lit< tt)
 hint_field Ivf = four_bytes_field 0 0 (lit≤ tt) (lit< tt)
@@ -197,7 +189,7 @@ meta_text format p entry level hint read none is zero =
     let z : none ≡ 0 = omega (arith, zero.1) in
     rw (e, z) refl
 
-pub meta_field : IsField meta meta_bytes IsMeta 32
+pub meta_field : IsField ⊤ meta meta_bytes IsMeta 32
 unfolding meta meta_bytes
 meta_field =
     viewed_law _ _

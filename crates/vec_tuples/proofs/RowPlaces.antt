@@ -1,4 +1,5 @@
 -- The places of an element's rows are read as they are spelled, one after the other.
+use Rattle.std.specs.Prelude.{⊤}
 use Rattle.std.proofs.Common.{◌≡◌, ℕ, zero, suc, ◌+◌, ◌*◌, ◌-◌, ◌<◌, ◌≤◌, Bool, true, false, List, [], ◌∷◌, ◌++◌, length, take, drop, Option, Some, None, refl, sym, ap, ◌∙◌, append_assoc, add-one, arith}
 use Rattle.std.specs.Prelude.{slice_get}
 use Rattle.std.specs.Option.{option_to_list, is_none}
@@ -6,20 +7,22 @@ use Rattle.std.proofs.lemmas.List.{length-append, append-nil, drop_all}
 use Rattle.vec_names.specs.declared.heap_id.HeapId.{HeapId}
 use Rattle.vec_names.specs.Pointer.{heap_id_option_bytes}
 use Rattle.vec_tuples.specs.Spelling.{rows_bytes, IsEmptyIf}
-use Rattle.vec_tuples.specs.Reading.{Read, Got, Bad, ◌>>=◌, row_of, rows}
-use Rattle.vec_tuples.proofs.FieldLaws.{IsField, next_law, wider}
+use Rattle.vec_tuples.specs.Reading.{row_of, rows}
+use Rattle.byte_fields.proofs.FieldLaws.{IsField, next_law, no_bytes_law, wider}
 use Rattle.vec_tuples.proofs.EachField.{optional_row_field, no_row_field, length-heap_id_option_bytes}
-use Rattle.vec_tuples.proofs.SlotLaws.{nothing_field}
 use Rattle.vec_tuples.proofs.SlotPlaces.{six_more}
-use Rattle.vec_tuples.proofs.Loops.{with_front, all_read}
+use Rattle.byte_fields.specs.declared.stop.Stop.{Stop}
+use Rattle.byte_fields.specs.Answers.{stopped}
+use Rattle.byte_fields.proofs.Loops.{with_front, all_read, goes_on, stops}
+use Rattle.byte_fields.specs.Reading.{Read, Got, ◌>>=◌}
 
 -- ---- one place
 
 abbrev pub IsNoneIf : Bool → Option HeapId → Type 0
-IsNoneIf false row = Unit {0}
+IsNoneIf false row = ⊤
 IsNoneIf true row = row ≡ None
 
-row_field : (closed : Bool) → IsField (row_of closed) heap_id_option_bytes (IsNoneIf closed) 6
+row_field : (closed : Bool) → IsField ⊤ (row_of closed) heap_id_option_bytes (IsNoneIf closed) 6
 unfolding row_of
 row_field false = optional_row_field
 row_field true = no_row_field
@@ -57,9 +60,9 @@ together closed n None others none fits = rw fits.1 ((omega arith, no_rows close
 together false n (Some id) others none fits = ((omega (arith, fits.0), tt), refl)
 together true n (Some id) others none fits = absurd cc
 
-pub rows_field : (n : ℕ) (closed : Bool) → IsField (rows closed n) (rows_bytes n) (AreRows closed n) (n * 6)
+pub rows_field : (n : ℕ) (closed : Bool) → IsField ⊤ (rows closed n) (rows_bytes n) (AreRows closed n) (n * 6)
 unfolding rows rows_bytes
-rows_field zero closed = wider 0 (0 * 6) (omega arith) (nothing_field (rows closed zero) (λ bytes. refl) (rows_bytes zero) (AreRows closed zero) refl (omega arith, no_rows closed) (nothing closed))
+rows_field zero closed = wider 0 (0 * 6) (omega arith) (no_bytes_law (rows closed zero) [] (rows_bytes zero) (AreRows closed zero) (λ bytes. refl) refl (omega arith, no_rows closed) (nothing closed))
 rows_field (suc n) closed =
     wider (6 + n * 6) (suc n * 6) (omega arith)
     (next_law (λ row ids. option_to_list row ++ ids) (row_of closed) (λ row. rows (is_none row) n) (row_field closed) (λ row _. rows_field n (is_none row)) (rows_bytes (suc n)) (AreRows closed (suc n))
@@ -68,10 +71,6 @@ rows_field (suc n) closed =
 
 -- ---- read by a loop
 
-regroup : (front more : List HeapId) (read : Read (List HeapId)) → with_front front (read >>= λ ids rest. Got (more ++ ids) rest) ≡ with_front (front ++ more) read
-regroup front more (Got ids rest) = ap (λ (v : List HeapId). Got v rest) (sym (append_assoc front more ids))
-regroup front more (Bad left) = refl
-
 rows_next : (closed : Bool) (n i : ℕ) (bytes : List ℕ) → i < n
     → rows closed (n - i) bytes ≡ row_of closed bytes >>= λ row rest. rows (is_none row) (n - (i + 1)) rest >>= λ ids rest'. Got (option_to_list row ++ ids) rest'
 unfolding rows
@@ -79,24 +78,18 @@ rows_next closed n i bytes lt =
     let more : n - i ≡ suc (n - (i + 1)) = omega arith in
     rw more refl
 
-pub rows_go_on : (front : List HeapId) (closed : Bool) (n i : ℕ) (bytes : List ℕ) (row : Option HeapId) (rest : List ℕ) (total : Read (List HeapId)) → i < n → row_of closed bytes ≡ Got row rest
-    → with_front front (rows closed (n - i) bytes) ≡ total → with_front (front ++ option_to_list row) (rows (is_none row) (n - (i + 1)) rest) ≡ total
-rows_go_on front closed n i bytes row rest total lt first so_far =
-    sym (regroup front (option_to_list row) (rows (is_none row) (n - (i + 1)) rest))
-    ∙ ap (λ r. with_front front (r >>= λ row rest. rows (is_none row) (n - (i + 1)) rest >>= λ ids rest'. Got (option_to_list row ++ ids) rest')) (sym first)
-    ∙ ap (λ r. with_front front r) (sym (rows_next closed n i bytes lt)) ∙ so_far
+module _ (front : List HeapId) (closed : Bool) (n i : ℕ) (bytes : List ℕ) (total : Read (List HeapId)) (so_far : with_front front (rows closed (n - i) bytes) ≡ total) where
+  pub rows_go_on : (row : Option HeapId) (rest : List ℕ) → i < n → row_of closed bytes ≡ Got row rest → with_front (front ++ option_to_list row) (rows (is_none row) (n - (i + 1)) rest) ≡ total
+  rows_go_on row rest lt is = goes_on (row_of closed bytes) (λ row. option_to_list row) (λ row. rows (is_none row) (n - (i + 1))) front (rows closed (n - i) bytes) total (rows_next closed n i bytes lt) so_far row rest is
 
-pub rows_stop : (front : List HeapId) (closed : Bool) (n i : ℕ) (bytes : List ℕ) (left : ℕ) (total : Read (List HeapId)) → i < n → row_of closed bytes ≡ Bad left
-    → with_front front (rows closed (n - i) bytes) ≡ total → total ≡ Bad left
-rows_stop front closed n i bytes left total lt first so_far =
-    sym so_far ∙ ap (λ r. with_front front r) (rows_next closed n i bytes lt)
-    ∙ ap (λ r. with_front front (r >>= λ row rest. rows (is_none row) (n - (i + 1)) rest >>= λ ids rest'. Got (option_to_list row ++ ids) rest')) first
+  pub rows_stop : (stop : Stop) → i < n → row_of closed bytes ≡ stopped stop → total ≡ stopped stop
+  rows_stop stop lt is = stops (row_of closed bytes) (λ row. option_to_list row) (λ row. rows (is_none row) (n - (i + 1))) front (rows closed (n - i) bytes) total (rows_next closed n i bytes lt) so_far stop is
 
-pub rows_done : (front : List HeapId) (closed : Bool) (n i : ℕ) (bytes : List ℕ) (total : Read (List HeapId)) → n ≤ i → with_front front (rows closed (n - i) bytes) ≡ total → total ≡ Got front bytes
-unfolding rows
-rows_done front closed n i bytes total le so_far =
-    let none : n - i ≡ 0 = omega arith in
-    all_read front bytes _ total (rw none refl) so_far
+  pub rows_done : n ≤ i → total ≡ Got front bytes
+  unfolding rows
+  rows_done le =
+      let none : n - i ≡ 0 = omega arith in
+      all_read front bytes _ total (rw none refl) so_far
 
 -- ---- written by a loop
 

@@ -10,9 +10,9 @@ use Rattle.std.proofs.lemmas.Option.{slice_get-get_or}
 use Rattle.std.proofs.Math.Seq.{take-append-add, drop-append-add, take-nil, drop-nil, drop-drop, drop-cons}
 use Rattle.vec_names.specs.declared.tid.Tid.{Tid}
 use Rattle.vec_names.specs.Pointer.{tid_option_bytes}
+use Rattle.byte_fields.proofs.EachField.{length-tid_option_bytes}
 use Rattle.vec_tuples.specs.declared.links.Links.{Links}
 use Rattle.vec_tuples.specs.Spelling.{links_kind, links_with, links_bytes, HasSlot}
-use Rattle.vec_tuples.proofs.EachField.{length-tid_option_bytes}
 
 abbrev six : Option Tid → List ℕ
 six o = tid_option_bytes o

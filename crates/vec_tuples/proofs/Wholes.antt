@@ -2,8 +2,13 @@
 use Rattle.std.proofs.Common.{◌≡◌, ◌≢◌, ℕ, Bool, true, false, eqb, ◌+◌, ◌-◌, ◌<◌, ◌≤◌, List, [], ◌∷◌, ◌++◌, length, take, refl, sym, ap, ◌∙◌, arith}
 use Rattle.std.proofs.lemmas.Bool.{eqb-true}
 use Rattle.std.proofs.lemmas.List.{append-nil, length-append, take_at}
-use Rattle.vec_tuples.specs.Reading.{Got, Bad, Reader, ◌>>=◌, ended, whole}
-use Rattle.vec_tuples.proofs.FieldLaws.{AreBytes, IsField, got_is, got_not_bad}
+use Rattle.byte_fields.specs.declared.stop.Stop.{Stop}
+use Rattle.byte_fields.specs.Answers.{stopped}
+use Rattle.byte_fields.specs.Reading.{Got, Bad, Reader, ◌>>=◌, as_bad}
+use Rattle.byte_fields.proofs.Loops.{stops_bad}
+use Rattle.vec_tuples.specs.Reading.{ended, whole}
+use Rattle.std.specs.Prelude.{⊤}
+use Rattle.byte_fields.proofs.FieldLaws.{AreBytes, IsField, got_is, got_not_bad}
 
 -- that nothing is left, as a test tells it
 pub none_left : (rest : List ℕ) (b : Bool) → b ≡ eqb (length rest) 0 → b ≡ true → rest ≡ []
@@ -19,7 +24,7 @@ over : {A : Type 0} (v : A) (rest : List ℕ) → rest ≢ [] → ended v rest �
 over v [] not_all = absurd (not_all refl)
 over v (b ∷ bs) not_all = refl
 
-module _ {A : Type 0} {f : Reader A} {spell : A → List ℕ} {Fits : A → Type 0} {most : ℕ} (law : IsField f spell Fits most) where
+module _ {A : Type 0} {f : Reader A} {spell : A → List ℕ} {Fits : A → Type 0} {most : ℕ} (law : IsField ⊤ f spell Fits most) where
   alone : (w : A) (bytes : List ℕ) → Fits w → bytes ≡ spell w → f bytes ≡ Got w []
   alone w bytes fits text = ap f (text ∙ sym (append-nil (spell w))) ∙ law.again w [] fits
 
@@ -42,7 +47,7 @@ module _ {A : Type 0} {f : Reader A} {spell : A → List ℕ} {Fits : A → Type
     got_read w fits text = (got_is v w rest [] (sym is ∙ alone w bytes fits text)).0
 
     pub got_exact : rest ≡ [] → whole f bytes ≡ Got v []
-    got_exact none = ap (λ r. r >>= λ v rest. ended v rest) is ∙ ap (ended v) none
+    got_exact none = ap (λ r. as_bad r >>= λ v rest. ended v rest) is ∙ ap (ended v) none
 
     pub over_read : rest ≢ [] → (w : A) → Fits w → bytes ≡ spell w → ⊥
     over_read not_all w fits text = not_all (got_is v w rest [] (sym is ∙ alone w bytes fits text)).1
@@ -50,7 +55,7 @@ module _ {A : Type 0} {f : Reader A} {spell : A → List ℕ} {Fits : A → Type
     pub over_exact : rest ≢ [] → (length bytes - length rest ≤ length bytes) × (whole f bytes ≡ Bad (length bytes - (length bytes - length rest)))
     over_exact not_all =
         let back : length rest ≡ length bytes - (length bytes - length rest) = omega (arith, rest_shorter) in
-        (omega arith, ap (λ r. r >>= λ v rest. ended v rest) is ∙ over v rest not_all ∙ ap (λ n. Bad n) back)
+        (omega arith, ap (λ r. as_bad r >>= λ v rest. ended v rest) is ∙ over v rest not_all ∙ ap (λ n. Bad n) back)
 
     pub over_start : (w : A) × Fits w × (more : List ℕ) × (spell w ≡ take (length bytes - length rest) bytes ++ more)
     over_start =
@@ -58,20 +63,23 @@ module _ {A : Type 0} {f : Reader A} {spell : A → List ℕ} {Fits : A → Type
         let size : length (spell v) ≡ length bytes - length rest = omega (arith, lengths) in
         (v, t.1, [], sym (ap (λ (b : List ℕ). take (length bytes - length rest) b ++ []) t.0 ∙ append-nil _ ∙ take_at (spell v) rest (length bytes - length rest) size))
 
-  module _ (bytes : List ℕ) (left : ℕ) (bs : AreBytes bytes) (is : f bytes ≡ Bad left) where
-    pub bad_inside : left ≤ length bytes
-    bad_inside = (law.near bytes left bs is).0
+  module _ (bytes : List ℕ) (stop : Stop) (bs : AreBytes bytes) (is : f bytes ≡ stopped stop) where
+    bad : as_bad (f bytes) ≡ Bad stop.left
+    bad = stops_bad (f bytes) stop is
 
-    pub bad_near : length bytes - left < most
-    bad_near = omega (arith, law.near bytes left bs is)
+    pub bad_inside : stop.left ≤ length bytes
+    bad_inside = (law.near bytes stop.left bs bad).0
+
+    pub bad_near : length bytes - stop.left < most
+    bad_near = omega (arith, law.near bytes stop.left bs bad)
 
     pub bad_read : (w : A) → Fits w → bytes ≡ spell w → ⊥
-    bad_read w fits text = got_not_bad (sym (alone w bytes fits text) ∙ is)
+    bad_read w fits text = got_not_bad (sym (ap (λ r. as_bad r) (alone w bytes fits text)) ∙ bad)
 
-    pub bad_exact : (length bytes - left ≤ length bytes) × (whole f bytes ≡ Bad (length bytes - (length bytes - left)))
+    pub bad_exact : (length bytes - stop.left ≤ length bytes) × (whole f bytes ≡ Bad (length bytes - (length bytes - stop.left)))
     bad_exact =
-        let back : left ≡ length bytes - (length bytes - left) = omega (arith, bad_inside) in
-        (omega arith, ap (λ r. r >>= λ v rest. ended v rest) is ∙ ap (λ n. Bad n) back)
+        let back : stop.left ≡ length bytes - (length bytes - stop.left) = omega (arith, bad_inside) in
+        (omega arith, ap (λ r. r >>= λ v rest. ended v rest) bad ∙ ap (λ n. Bad n) back)
 
-    pub bad_start : (w : A) × Fits w × (more : List ℕ) × (spell w ≡ take (length bytes - left) bytes ++ more)
-    bad_start = law.alive bytes left bs is
+    pub bad_start : (w : A) × Fits w × (more : List ℕ) × (spell w ≡ take (length bytes - stop.left) bytes ++ more)
+    bad_start = law.alive tt bytes stop.left bs bad

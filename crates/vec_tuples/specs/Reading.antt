@@ -1,18 +1,18 @@
 -- Reading a tuple from left to right, field by field, up to the first whose value no tuple with the same earlier
 -- fields has.
-use Rattle.std.specs.Prelude.{ℕ, zero, suc, true, false, ◌+◌, ◌*◌, ◌/◌, ◌%◌, Bool, not, ◌&&◌, nat_lt, nat_le, ◌==◌, if◌then◌else◌, List, [], ◌∷◌, ◌++◌, length, take, drop, replicate, slice_index, Option, Some, None}
+use Rattle.std.specs.Prelude.{ℕ, zero, suc, true, false, ◌+◌, ◌*◌, ◌/◌, ◌%◌, Bool, ◌&&◌, nat_le, ◌==◌, if◌then◌else◌, List, [], ◌∷◌, ◌++◌, length, replicate, slice_index, Option, Some, None}
 use Rattle.std.specs.List.{list_all}
 use Rattle.std.specs.Option.{option_to_list, is_none}
-use Rattle.std.specs.Int.{w16, w32, from_le_bytes}
+use Rattle.std.specs.Int.{w16, from_le_bytes}
 use Rattle.vec_names.specs.declared.tid.Tid.{Tid}
 use Rattle.vec_names.specs.declared.params.Kind.{Kind}
 use Rattle.vec_names.specs.declared.params.Kind.TheVariants.{Hnsw, Ivf}
 use Rattle.vec_names.specs.declared.params.Ops.{Ops}
 use Rattle.vec_names.specs.declared.params.Ops.TheVariants.{Hamming, Jaccard}
 use Rattle.vec_names.specs.declared.params.Params.{Params}
-use Rattle.vec_names.specs.Pointer.{tid_in, tid_option_in, heap_id_in, heap_id_option_in}
+use Rattle.vec_names.specs.Pointer.{heap_id_option_in}
 use Rattle.vec_names.specs.declared.heap_id.HeapId.{HeapId}
-use Rattle.bit_code.specs.Places.{unpacked}
+use Rattle.byte_fields.specs.Reading.{Read, Got, Bad, Reader, ◌>>=◌, as_bad, field, with_next, and_then, ◌⨟◌, viewed, times, only_if, byte_from, two_bytes_from, four_bytes_from, place, optional_place, heap_id, level_of, packed_places, none_alone, no_place, slot_of}
 use Rattle.vec_tuples.specs.declared.meta.Meta.{Meta}
 use Rattle.vec_tuples.specs.declared.links.Links.{Links}
 use Rattle.vec_tuples.specs.declared.entry.EntryRow.{EntryRow}
@@ -21,85 +21,15 @@ use Rattle.vec_tuples.specs.declared.element.Element.{Element}
 use Rattle.vec_tuples.specs.declared.element.ElementHead.{ElementHead}
 use Rattle.vec_tuples.specs.Spelling.{links_with, magic, length_word, row_with, centre_with, head_with, element_with}
 
--- ---- readers
-
--- what reading gives: a value and the bytes after it; or that a field's value is not allowed, or that the bytes end in
--- it, with the number of bytes from that field on
-pub data Read (A : Type 0) : Type 0 where
-  Got : (value : A) (rest : List ℕ) → Read A
-  Bad : (left : ℕ) → Read A
-
-abbrev pub Reader : Type 0 → Type 0
-Reader A = List ℕ → Read A
-
--- goes on with the value and the rest
-infixl 10 ◌>>=◌
-abbrev pub ◌>>=◌ : {A B : Type 0} → Read A → (A → List ℕ → Read B) → Read B
-(Got v rest) >>= f = f v rest
-(Bad left) >>= f = Bad left
-
--- n bytes with what they tell, if that is allowed
-abbrev pub told : {A : Type 0} → ℕ → List ℕ → Option A → Read A
-told n bytes None = Bad (length bytes)
-told n bytes (Some v) = Got v (drop n bytes)
-
--- a field of n bytes
-unfoldable pub field : {A : Type 0} → ℕ → (List ℕ → Option A) → Reader A
-field n meant bytes = if nat_lt (length bytes) n then Bad (length bytes) else told n bytes (meant (take n bytes))
-
--- a field, then one that may depend on it, and what the two make
-abbrev pub with_next : {A B C : Type 0} → (A → B → C) → Reader A → (A → Reader B) → Reader C
-with_next made f g bytes = f bytes >>= λ v rest. g v rest >>= λ w rest'. Got (made v w) rest'
-
--- both of them
-abbrev pub and_then : {A B : Type 0} → Reader A → (A → Reader B) → Reader (A × B)
-and_then f g = with_next (λ v w. (v, w)) f g
-
--- a field, and then another one
-infixr 10 ◌⨟◌
-abbrev pub ◌⨟◌ : {A B : Type 0} → Reader A → Reader B → Reader (A × B)
-f ⨟ g = and_then f (λ _. g)
-
--- as another value
-abbrev pub viewed : {A B : Type 0} → (A → B) → Reader A → Reader B
-viewed view f bytes = f bytes >>= λ v rest. Got (view v) rest
+-- ---- the whole
 
 abbrev pub ended : {A : Type 0} → A → List ℕ → Read A
 ended v [] = Got v []
 ended v (b ∷ bs) = Bad (length (b ∷ bs))
 
--- a value and nothing behind it
+-- a value and nothing behind it; the end of the bytes in a field is one more value that is not allowed
 abbrev pub whole : {A : Type 0} → Reader A → Reader A
-whole f bytes = f bytes >>= λ v rest. ended v rest
-
--- ---- fields
-
-abbrev pub only_if : {A : Type 0} → Bool → A → Option A
-only_if allowed v = if allowed then Some v else None
-
--- one byte from low to high
-unfoldable pub byte_from : ℕ → ℕ → Reader ℕ
-byte_from low high = field 1 (λ b. only_if (nat_le low (slice_index b 0) && nat_le (slice_index b 0) high) (slice_index b 0))
-
--- two bytes of a number from low to high
-unfoldable pub two_bytes_from : ℕ → ℕ → Reader ℕ
-two_bytes_from low high = field 2 (λ b. only_if (nat_le low (from_le_bytes w16 b) && nat_le (from_le_bytes w16 b) high) (from_le_bytes w16 b))
-
--- four bytes of a number from low to high
-unfoldable pub four_bytes_from : ℕ → ℕ → Reader ℕ
-four_bytes_from low high = field 4 (λ b. only_if (nat_le low (from_le_bytes w32 b) && nat_le (from_le_bytes w32 b) high) (from_le_bytes w32 b))
-
-unfoldable pub optional_place : Reader (Option Tid)
-optional_place = field 6 tid_option_in
-
--- only that there is none
-unfoldable pub none_alone : {A : Type 0} → Option (Option A) → Option (Option A)
-none_alone None = None
-none_alone (Some None) = Some None
-none_alone (Some (Some at)) = None
-
-unfoldable pub no_place : Reader (Option Tid)
-no_place = field 6 (λ b. none_alone (tid_option_in b))
+whole f bytes = as_bad (f bytes) >>= λ v rest. ended v rest
 
 -- ---- the meta tuple
 
@@ -140,11 +70,6 @@ unfoldable pub entry_of : Kind → Reader (Option Tid)
 entry_of Hnsw = optional_place
 entry_of Ivf = no_place
 
--- 0 alone beside no entry
-unfoldable pub level_of : Option Tid → Reader ℕ
-level_of None = byte_from 0 0
-level_of (Some at) = byte_from 0 255
-
 unfoldable pub hint_of : Kind → Reader ℕ
 hint_of Hnsw = four_bytes_from 1 32768
 hint_of Ivf = four_bytes_from 0 0
@@ -161,17 +86,10 @@ abbrev pub value_with : Reader (List Bool) → ℕ → Reader (List Bool)
 value_with places count =
     viewed (λ x. x.1.1) (four_bytes_from (length_word count) (length_word count) ⨟ four_bytes_from count count ⨟ places)
 
--- the places of a bit value, no unused bit being set
-unfoldable pub packed_places : ℕ → Reader (List Bool)
-packed_places count = field ((count + 7) / 8) (λ b. only_if (list_all not (drop count (unpacked b))) (take count (unpacked b)))
-
 unfoldable pub bit_value : ℕ → Reader (List Bool)
 bit_value count = value_with (packed_places count) count
 
 -- ---- the entry tuple and the list tuple
-
-unfoldable pub heap_id : Reader HeapId
-heap_id = field 6 heap_id_in
 
 unfoldable pub entry : Params → Reader EntryRow
 entry p = viewed (λ x. row_with x.0 x.1.1) (heap_id ⨟ two_bytes_from 0 0 ⨟ bit_value p.bits)
@@ -182,15 +100,6 @@ centre p =
     (four_bytes_from 0 4294967295 ⨟ four_bytes_from 0 4294967295 ⨟ four_bytes_from 0 0 ⨟ bit_value p.bits)
 
 -- ---- the neighbour tuple
-
--- so many values one after the other
-unfoldable pub times : {A : Type 0} → Reader A → ℕ → Reader (List A)
-times f zero bytes = Got [] bytes
-times f (suc n) bytes = with_next (λ v vs. v ∷ vs) f (λ _. times f n) bytes
-
-unfoldable pub slot_of : Bool → Reader (Option Tid)
-slot_of false = optional_place
-slot_of true = no_place
 
 -- whether there may be so many slots
 unfoldable pub is_slot_count : ℕ → ℕ → Bool
@@ -206,9 +115,6 @@ links p =
     (and_then (byte_from 2 3) (λ k. byte_from 1 255 ⨟ and_then (slot_count p.m) (times (slot_of (k == 3)))))
 
 -- ---- the element tuple
-
-unfoldable pub place : Reader Tid
-place = field 6 tid_in
 
 unfoldable pub optional_row : Reader (Option HeapId)
 optional_row = field 6 heap_id_option_in

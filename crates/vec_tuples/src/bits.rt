@@ -5,12 +5,10 @@ ghost use Rattle.std.specs.List.{list_all};
 ghost use Rattle.bit_code.specs.Places.{unpacked, Packed};
 ghost use Rattle.std.specs.Int.{w32, to_le_bytes};
 ghost use Rattle.vec_tuples.specs.Spelling.{length_word, bits_bytes, beside};
-ghost use Rattle.vec_tuples.specs.Reading.{packed_places, clear_places, bit_value, value_with, value_of};
-ghost use Rattle.vec_tuples.specs.Answers.{Gives};
+ghost use Rattle.vec_tuples.specs.Reading.{clear_places, bit_value, value_with, value_of};
+ghost use Rattle.byte_fields.specs.Answers.{Gives};
 
-use crate::fields::four_bytes_from;
-use crate::refused::Refused;
-use bit_code::is_packed;
+use byte_fields::{Stop, four_bytes_from, packed_places};
 
 /// The word that stands before a value of so many places, as PostgreSQL keeps a length: the number of
 /// bytes from the word on, shifted left by two.
@@ -23,7 +21,7 @@ pub fn length_word(count: u32) -> u32
 
 /// The packed places of a value of `count` places.
 #[tactic(auto, unfolding(crate::specs::Reading::bit_value))]
-pub fn bit_value(count: u32, bytes: &[u8]) -> Result<(&[u8], &[u8]), Refused>
+pub fn bit_value(count: u32, bytes: &[u8]) -> Result<(&[u8], &[u8]), Stop>
     requires some { 1 ≤ count }
     requires few { count ≤ 64000 }
     ensures reads { Gives (λ x. (take count (unpacked x.0.now), x.1.now)) result (bit_value count bytes.now) }
@@ -36,27 +34,9 @@ pub fn bit_value(count: u32, bytes: &[u8]) -> Result<(&[u8], &[u8]), Refused>
     Ok((places, rest))
 }
 
-#[tactic(auto, unfolding(crate::specs::Reading::packed_places, crate::specs::Reading::field))]
-fn packed_places(count: u32, bytes: &[u8]) -> Result<(&[u8], &[u8]), Refused>
-    requires some { 1 ≤ count }
-    requires few { count ≤ 64000 }
-    ensures reads { Gives (λ x. (take count (unpacked x.0.now), x.1.now)) result (packed_places count bytes.now) }
-    ensures kept { IfOk result (λ x. Packed count x.0.now) }
-{
-    let long = (count as usize + 7) / 8;
-    if bytes.len() < long {
-        return Err(Refused { left: bytes.len() });
-    }
-    let (front, rest) = bytes.split_at(long);
-    if !is_clear(count, front) {
-        return Err(Refused { left: bytes.len() });
-    }
-    Ok((front, rest))
-}
-
 /// The packed places of an element's value of `count` places; of a deleted element none is set.
 #[tactic(auto, unfolding(crate::specs::Reading::value_of))]
-pub fn value_of(deleted: bool, count: u32, bytes: &[u8]) -> Result<(&[u8], &[u8]), Refused>
+pub fn value_of(deleted: bool, count: u32, bytes: &[u8]) -> Result<(&[u8], &[u8]), Stop>
     requires some { 1 ≤ count }
     requires few { count ≤ 64000 }
     ensures reads { Gives (λ x. (take count (unpacked x.0.now), x.1.now)) result (value_of deleted count bytes.now) }
@@ -69,7 +49,7 @@ pub fn value_of(deleted: bool, count: u32, bytes: &[u8]) -> Result<(&[u8], &[u8]
     }
 }
 
-fn clear_value(count: u32, bytes: &[u8]) -> Result<(&[u8], &[u8]), Refused>
+fn clear_value(count: u32, bytes: &[u8]) -> Result<(&[u8], &[u8]), Stop>
     requires some { 1 ≤ count }
     requires few { count ≤ 64000 }
     ensures reads { Gives (λ x. (take count (unpacked x.0.now), x.1.now)) result (value_with (clear_places count) count bytes.now) }
@@ -82,8 +62,8 @@ fn clear_value(count: u32, bytes: &[u8]) -> Result<(&[u8], &[u8]), Refused>
     Ok((places, rest))
 }
 
-#[tactic(auto, unfolding(crate::specs::Reading::clear_places, crate::specs::Reading::field))]
-fn clear_places(count: u32, bytes: &[u8]) -> Result<(&[u8], &[u8]), Refused>
+#[tactic(auto, unfolding(crate::specs::Reading::clear_places, byte_fields::specs::Reading::field))]
+fn clear_places(count: u32, bytes: &[u8]) -> Result<(&[u8], &[u8]), Stop>
     requires some { 1 ≤ count }
     requires few { count ≤ 64000 }
     ensures reads { Gives (λ x. (take count (unpacked x.0.now), x.1.now)) result (clear_places count bytes.now) }
@@ -91,11 +71,11 @@ fn clear_places(count: u32, bytes: &[u8]) -> Result<(&[u8], &[u8]), Refused>
 {
     let long = (count as usize + 7) / 8;
     if bytes.len() < long {
-        return Err(Refused { left: bytes.len() });
+        return Err(Stop::short(bytes));
     }
     let (front, rest) = bytes.split_at(long);
     if !are_clear(count, front) {
-        return Err(Refused { left: bytes.len() });
+        return Err(Stop::bad(bytes));
     }
     Ok((front, rest))
 }
@@ -145,14 +125,4 @@ fn clear(value: &mut [u8])
 {
     let (_, places) = value.split_at_mut(8);
     places.fill(0);
-}
-
-/// Whether no bit behind so many places is set.
-fn is_clear(count: u32, bytes: &[u8]) -> bool
-    requires some { 1 ≤ count }
-    requires few { count ≤ 64000 }
-    requires long { length bytes.now ≡ (count + 7) / 8 }
-    ensures { result ≡ list_all not (drop count (unpacked bytes.now)) }
-{
-    is_packed(count, bytes)
 }

@@ -6,15 +6,14 @@ ghost use Rattle.bit_code.specs.Places.{unpacked, Packed};
 ghost use Rattle.vec_names.specs.Params.{IsInRange};
 ghost use Rattle.vec_tuples.specs.Spelling.{centre_bytes, length_word, centre_with, head_of_centre, IsCentre};
 ghost use Rattle.vec_tuples.specs.Reading.{centre};
-ghost use Rattle.vec_tuples.specs.Answers.{Gives, IsReading, BeginsSome};
+ghost use Rattle.byte_fields.specs.Answers.{Gives};
+ghost use Rattle.vec_tuples.specs.Answers.{IsReading, BeginsSome};
 ghost use Rattle.vec_tuples.specs.declared.centre.CentreTuple.{CentreTuple};
 
 use crate::bits::{bit_value, length_word};
 use crate::fault::TupleFault;
-use crate::fields::four_bytes_from;
-use crate::pieces::put;
-use crate::refused::Refused;
 use bit_code::Bits;
+use byte_fields::{Stop, four_bytes_from, put};
 use std::alloc::Global;
 use vec_names::Params;
 
@@ -62,8 +61,8 @@ pub fn read_centre(alloc: Global, bytes: &[u8], params: &Params) -> Result<Centr
                 Err(_) => Err(TupleFault::Memory),
             }
         }
-        Err(refused) => Err(TupleFault::Bad {
-            at: (bytes.len() - refused.left) as u16,
+        Err(stop) => Err(TupleFault::Bad {
+            at: (bytes.len() - stop.left) as u16,
         }),
     }
 }
@@ -92,7 +91,7 @@ pub fn centre_head(bytes: &[u8], params: &Params) -> Option<(u32, u32)>
 }
 
 #[tactic(auto, unfolding(crate::specs::Reading::centre))]
-fn centre(params: Params, bytes: &[u8]) -> Result<(u32, u32, &[u8], &[u8]), Refused>
+fn centre(params: Params, bytes: &[u8]) -> Result<(u32, u32, &[u8], &[u8]), Stop>
     requires some { 1 ≤ params.bits }
     requires few { params.bits ≤ 64000 }
     ensures reads { Gives (λ x. (centre_with x.0 x.1 (take params.bits (unpacked x.2.now)), x.3.now)) result (centre params bytes.now) }

@@ -5,17 +5,16 @@ ghost use Rattle.bit_code.specs.Places.{unpacked, Packed};
 ghost use Rattle.vec_names.specs.Params.{IsInRange};
 ghost use Rattle.vec_tuples.specs.Spelling.{element_bytes, element_with, head_bytes, head_with, head_of_element, beside, deleted_byte, IsElement};
 ghost use Rattle.vec_tuples.specs.Reading.{head, element};
-ghost use Rattle.vec_tuples.specs.Answers.{Gives, IsReading, BeginsSome};
+ghost use Rattle.byte_fields.specs.Answers.{Gives};
+ghost use Rattle.vec_tuples.specs.Answers.{IsReading, BeginsSome};
 ghost use Rattle.vec_tuples.specs.declared.element.Element.{Element};
 
 use crate::bits::{clear_if, value_head, value_of};
 use crate::fault::TupleFault;
-use crate::fields::{byte_from, place, two_bytes_from};
-use crate::pieces::put;
-use crate::refused::Refused;
 use crate::rows::{fill_rows, rows};
 use arrayvec::ArrayVec;
 use bit_code::Bits;
+use byte_fields::{Stop, byte_from, place, put, two_bytes_from};
 use std::alloc::Global;
 use vec_names::{HeapId, Params, Tid};
 
@@ -86,8 +85,8 @@ pub fn read_element(alloc: Global, bytes: &[u8], params: &Params) -> Result<Elem
                 Err(_) => Err(TupleFault::Memory),
             }
         }
-        Err(refused) => Err(TupleFault::Bad {
-            at: (bytes.len() - refused.left) as u16,
+        Err(stop) => Err(TupleFault::Bad {
+            at: (bytes.len() - stop.left) as u16,
         }),
     }
 }
@@ -130,7 +129,7 @@ pub fn element_head(bytes: &[u8], params: &Params) -> Option<ElementHead>
 }
 
 #[tactic(auto, unfolding(crate::specs::Reading::element))]
-fn element_at(params: Params, bytes: &[u8]) -> Result<(ElementHead, &[u8], &[u8]), Refused>
+fn element_at(params: Params, bytes: &[u8]) -> Result<(ElementHead, &[u8], &[u8]), Stop>
     requires some { 1 ≤ params.bits }
     requires few { params.bits ≤ 64000 }
     ensures reads { Gives (λ x. (element_with x.0 (take params.bits (unpacked x.1.now)), x.2.now)) result (element params bytes.now) }
@@ -142,7 +141,7 @@ fn element_at(params: Params, bytes: &[u8]) -> Result<(ElementHead, &[u8], &[u8]
 }
 
 #[tactic(auto, unfolding(crate::specs::Reading::head))]
-fn head_at(bytes: &[u8]) -> Result<(ElementHead, &[u8]), Refused>
+fn head_at(bytes: &[u8]) -> Result<(ElementHead, &[u8]), Stop>
     ensures { Gives (λ x. (x.0, x.1.now)) result (head bytes.now) }
 {
     let (_, rest) = byte_from(1, 1, bytes)?;

@@ -7,15 +7,14 @@ ghost use Rattle.vec_names.specs.Params.{IsInRange};
 ghost use Rattle.vec_names.specs.Pointer.{heap_id_bytes};
 ghost use Rattle.vec_tuples.specs.Spelling.{entry_bytes, length_word, row_with, IsEntry};
 ghost use Rattle.vec_tuples.specs.Reading.{entry};
-ghost use Rattle.vec_tuples.specs.Answers.{Gives, IsReading, BeginsSome};
+ghost use Rattle.byte_fields.specs.Answers.{Gives};
+ghost use Rattle.vec_tuples.specs.Answers.{IsReading, BeginsSome};
 ghost use Rattle.vec_tuples.specs.declared.entry.EntryRow.{EntryRow};
 
 use crate::bits::{bit_value, length_word};
 use crate::fault::TupleFault;
-use crate::fields::{heap_id, two_bytes_from};
-use crate::pieces::put;
-use crate::refused::Refused;
 use bit_code::Bits;
+use byte_fields::{Stop, heap_id, put, two_bytes_from};
 use std::alloc::Global;
 use vec_names::{HeapId, Params};
 
@@ -61,14 +60,14 @@ pub fn read_entry(alloc: Global, bytes: &[u8], params: &Params) -> Result<EntryR
                 Err(_) => Err(TupleFault::Memory),
             }
         }
-        Err(refused) => Err(TupleFault::Bad {
-            at: (bytes.len() - refused.left) as u16,
+        Err(stop) => Err(TupleFault::Bad {
+            at: (bytes.len() - stop.left) as u16,
         }),
     }
 }
 
 #[tactic(auto, unfolding(crate::specs::Reading::entry))]
-fn entry(params: Params, bytes: &[u8]) -> Result<(HeapId, &[u8], &[u8]), Refused>
+fn entry(params: Params, bytes: &[u8]) -> Result<(HeapId, &[u8], &[u8]), Stop>
     requires some { 1 ≤ params.bits }
     requires few { params.bits ≤ 64000 }
     ensures reads { Gives (λ x. (row_with x.0 (take params.bits (unpacked x.1.now)), x.2.now)) result (entry params bytes.now) }

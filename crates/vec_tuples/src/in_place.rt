@@ -10,11 +10,10 @@ ghost use Rattle.vec_tuples.specs.Reading.{links};
 ghost use Rattle.vec_tuples.specs.Answers.{Passes};
 ghost use Rattle.vec_tuples.specs.declared.links.Links.{Links};
 
-use crate::fields::byte_from;
 use crate::links::head;
 use crate::pieces::{put_six, six_at};
-use crate::refused::Refused;
 use crate::slots::{skip_slots, slot_count};
+use byte_fields::{Stop, byte_from};
 use vec_names::{Params, Tid};
 
 /// Writes the spelling of a neighbour tuple over bytes of its length, 4 and 6 for each slot. It takes no memory.
@@ -84,7 +83,7 @@ pub fn links_head(bytes: &[u8], params: &Params) -> Option<(bool, u8, u16)>
 }
 
 #[tactic(auto, unfolding(crate::specs::Reading::links))]
-fn head_at(params: Params, bytes: &[u8]) -> Result<(bool, u8, u16, &[u8]), Refused>
+fn head_at(params: Params, bytes: &[u8]) -> Result<(bool, u8, u16, &[u8]), Stop>
     ensures { Passes (λ x. ((x.0, x.1, x.2), x.3.now)) head_of_links result (links params bytes.now) }
 {
     let (kind, rest) = byte_from(2, 3, bytes)?;

@@ -5,14 +5,13 @@ ghost use Rattle.std.specs.Int.{w16, to_le_bytes};
 ghost use Rattle.vec_names.specs.Params.{IsInRange};
 ghost use Rattle.vec_tuples.specs.Spelling.{links_bytes, links_kind, IsLinks};
 ghost use Rattle.vec_tuples.specs.Reading.{links};
-ghost use Rattle.vec_tuples.specs.Answers.{GivesOr, IsReading, BeginsSome};
+ghost use Rattle.byte_fields.specs.Answers.{GivesOr};
+ghost use Rattle.vec_tuples.specs.Answers.{IsReading, BeginsSome};
 ghost use Rattle.vec_tuples.specs.declared.links.Links.{Links};
 
 use crate::fault::TupleFault;
-use crate::fields::byte_from;
-use crate::pieces::put;
-use crate::refused::Halt;
-use crate::slots::{put_slots, slot_count, slots};
+use crate::slots::{put_slots, slot_count};
+use byte_fields::{Halt, byte_from, put, slots};
 use std::alloc::Global;
 use vec_names::{Listed, Params, Tid};
 
@@ -59,8 +58,8 @@ pub fn read_list(alloc: Global, bytes: &[u8], params: &Params) -> Result<Links, 
             Ok(read)
         }
         Err(Halt::Memory) => Err(TupleFault::Memory),
-        Err(Halt::Bad { left }) => Err(TupleFault::Bad {
-            at: (bytes.len() - left) as u16,
+        Err(Halt::Stopped(stop)) => Err(TupleFault::Bad {
+            at: (bytes.len() - stop.left) as u16,
         }),
     }
 }
@@ -69,18 +68,9 @@ pub fn read_list(alloc: Global, bytes: &[u8], params: &Params) -> Result<Links, 
 fn links_at(alloc: Global, params: Params, bytes: &[u8]) -> Result<(Links, &[u8]), Halt>
     ensures { GivesOr (λ x. (x.0, x.1.now)) result (links params bytes.now) }
 {
-    let (kind, rest) = match byte_from(2, 3, bytes) {
-        Ok(read) => read,
-        Err(refused) => return Err(Halt::Bad { left: refused.left }),
-    };
-    let (version, rest) = match byte_from(1, 255, rest) {
-        Ok(read) => read,
-        Err(refused) => return Err(Halt::Bad { left: refused.left }),
-    };
-    let (count, rest) = match slot_count(params.m, rest) {
-        Ok(read) => read,
-        Err(refused) => return Err(Halt::Bad { left: refused.left }),
-    };
+    let (kind, rest) = byte_from(2, 3, bytes)?;
+    let (version, rest) = byte_from(1, 255, rest)?;
+    let (count, rest) = slot_count(params.m, rest)?;
     let (tids, rest) = slots(alloc, kind == 3, count, rest)?;
     Ok((
         Links {

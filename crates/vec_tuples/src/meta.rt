@@ -2,14 +2,16 @@
 
 ghost use Rattle.std.specs.Prelude.{◌≡◌, ◌++◌, length, OnOk, OnErr, IfOk, IfErr, MatchResult};
 ghost use Rattle.vec_tuples.specs.Spelling.{meta_bytes, kind_byte, ops_byte, IsMeta};
-ghost use Rattle.vec_tuples.specs.Reading.{entry_of, level_of, hint_of, meta};
-ghost use Rattle.vec_tuples.specs.Answers.{Gives, IsReading, BeginsSome, IsFault};
+ghost use Rattle.byte_fields.specs.Answers.{Gives};
+ghost use Rattle.vec_tuples.specs.Reading.{entry_of, hint_of, meta};
+ghost use Rattle.vec_tuples.specs.Answers.{IsReading, BeginsSome, IsFault};
 ghost use Rattle.vec_tuples.specs.declared.meta.Meta.{Meta};
 
 use crate::fault::TupleFault;
-use crate::fields::{byte_from, four_bytes_from, no_place, optional_place, two_bytes_from};
 use crate::parameters::params;
-use crate::refused::Refused;
+use byte_fields::{
+    Stop, byte_from, four_bytes_from, level_of, no_place, optional_place, two_bytes_from,
+};
 use vec_names::{Kind, Ops, Params, Tid};
 
 /// The four bytes that a meta tuple begins with.
@@ -59,14 +61,14 @@ pub fn read_meta(bytes: &[u8]) -> Result<Meta, TupleFault>
                 })
             }
         }
-        Err(refused) => Err(TupleFault::Bad {
-            at: (bytes.len() - refused.left) as u16,
+        Err(stop) => Err(TupleFault::Bad {
+            at: (bytes.len() - stop.left) as u16,
         }),
     }
 }
 
 #[tactic(auto, unfolding(crate::specs::Reading::meta))]
-fn meta_tuple(bytes: &[u8]) -> Result<(Meta, &[u8]), Refused>
+fn meta_tuple(bytes: &[u8]) -> Result<(Meta, &[u8]), Stop>
     ensures { Gives (λ x. (x.0, x.1.now)) result (meta bytes.now) }
 {
     let (_, rest) = four_bytes_from(MAGIC, MAGIC, bytes)?;
@@ -88,7 +90,7 @@ fn meta_tuple(bytes: &[u8]) -> Result<(Meta, &[u8]), Refused>
 
 /// Lists have no entry.
 #[tactic(auto, unfolding(crate::specs::Reading::entry_of))]
-fn entry_of(kind: Kind, bytes: &[u8]) -> Result<(Option<Tid>, &[u8]), Refused>
+fn entry_of(kind: Kind, bytes: &[u8]) -> Result<(Option<Tid>, &[u8]), Stop>
     ensures { Gives (λ x. (x.0, x.1.now)) result (entry_of kind bytes.now) }
 {
     match kind {
@@ -97,19 +99,8 @@ fn entry_of(kind: Kind, bytes: &[u8]) -> Result<(Option<Tid>, &[u8]), Refused>
     }
 }
 
-/// The level of an entry, 0 where there is none.
-#[tactic(auto, unfolding(crate::specs::Reading::level_of))]
-fn level_of(entry: Option<Tid>, bytes: &[u8]) -> Result<(u8, &[u8]), Refused>
-    ensures { Gives (λ x. (x.0, x.1.now)) result (level_of entry bytes.now) }
-{
-    match entry {
-        None => byte_from(0, 0, bytes),
-        Some(_) => byte_from(0, 255, bytes),
-    }
-}
-
 #[tactic(auto, unfolding(crate::specs::Reading::hint_of))]
-fn hint_of(kind: Kind, bytes: &[u8]) -> Result<(u32, &[u8]), Refused>
+fn hint_of(kind: Kind, bytes: &[u8]) -> Result<(u32, &[u8]), Stop>
     ensures { Gives (λ x. (x.0, x.1.now)) result (hint_of kind bytes.now) }
 {
     match kind {

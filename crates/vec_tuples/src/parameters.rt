@@ -1,15 +1,14 @@
 //! The fields of an index's parameters, each in the range that those before it leave.
 
 ghost use Rattle.std.specs.Prelude.{◌≡◌, ◌≤◌, IfOk};
+ghost use Rattle.byte_fields.specs.Answers.{Gives};
 ghost use Rattle.vec_tuples.specs.Reading.{kind, ops_of, m_of, ef_of, lists_of, params};
-ghost use Rattle.vec_tuples.specs.Answers.{Gives};
 
-use crate::fields::{four_bytes_from, two_bytes_from};
-use crate::refused::Refused;
+use byte_fields::{Stop, four_bytes_from, two_bytes_from};
 use vec_names::{Kind, Ops, Params};
 
 #[tactic(auto, unfolding(crate::specs::Reading::params))]
-pub fn params(bytes: &[u8]) -> Result<(Params, &[u8]), Refused>
+pub fn params(bytes: &[u8]) -> Result<(Params, &[u8]), Stop>
     ensures { Gives (λ x. (x.0, x.1.now)) result (params bytes.now) }
 {
     let (kind, rest) = kind(bytes)?;
@@ -29,37 +28,37 @@ pub fn params(bytes: &[u8]) -> Result<(Params, &[u8]), Refused>
     Ok((params, rest))
 }
 
-#[tactic(auto, unfolding(crate::specs::Reading::kind, crate::specs::Reading::field, crate::specs::Reading::kind_in))]
-fn kind(bytes: &[u8]) -> Result<(Kind, &[u8]), Refused>
+#[tactic(auto, unfolding(crate::specs::Reading::kind, byte_fields::specs::Reading::field, crate::specs::Reading::kind_in))]
+fn kind(bytes: &[u8]) -> Result<(Kind, &[u8]), Stop>
     ensures { Gives (λ x. (x.0, x.1.now)) result (kind bytes.now) }
 {
     match bytes.split_first() {
-        None => Err(Refused { left: bytes.len() }),
+        None => Err(Stop::short(bytes)),
         Some((front, rest)) => match *front {
             1 => Ok((Kind::Hnsw, rest)),
             2 => Ok((Kind::Ivf, rest)),
-            _ => Err(Refused { left: bytes.len() }),
+            _ => Err(Stop::bad(bytes)),
         },
     }
 }
 
 /// Lists have the Hamming distance alone.
-#[tactic(auto, unfolding(crate::specs::Reading::ops_of, crate::specs::Reading::field, crate::specs::Reading::ops_in))]
-fn ops_of(kind: Kind, bytes: &[u8]) -> Result<(Ops, &[u8]), Refused>
+#[tactic(auto, unfolding(crate::specs::Reading::ops_of, byte_fields::specs::Reading::field, crate::specs::Reading::ops_in))]
+fn ops_of(kind: Kind, bytes: &[u8]) -> Result<(Ops, &[u8]), Stop>
     ensures { Gives (λ x. (x.0, x.1.now)) result (ops_of kind bytes.now) }
 {
     match bytes.split_first() {
-        None => Err(Refused { left: bytes.len() }),
+        None => Err(Stop::short(bytes)),
         Some((front, rest)) => match (*front, kind) {
             (1, _) => Ok((Ops::Hamming, rest)),
             (2, Kind::Hnsw) => Ok((Ops::Jaccard, rest)),
-            _ => Err(Refused { left: bytes.len() }),
+            _ => Err(Stop::bad(bytes)),
         },
     }
 }
 
 #[tactic(auto, unfolding(crate::specs::Reading::m_of))]
-fn m_of(kind: Kind, bytes: &[u8]) -> Result<(u16, &[u8]), Refused>
+fn m_of(kind: Kind, bytes: &[u8]) -> Result<(u16, &[u8]), Stop>
     ensures reads { Gives (λ x. (x.0, x.1.now)) result (m_of kind bytes.now) }
     ensures range { IfOk result (λ x. x.0 ≤ 100) }
 {
@@ -70,7 +69,7 @@ fn m_of(kind: Kind, bytes: &[u8]) -> Result<(u16, &[u8]), Refused>
 }
 
 #[tactic(auto, unfolding(crate::specs::Reading::ef_of))]
-fn ef_of(kind: Kind, m: u16, bytes: &[u8]) -> Result<(u16, &[u8]), Refused>
+fn ef_of(kind: Kind, m: u16, bytes: &[u8]) -> Result<(u16, &[u8]), Stop>
     requires { m ≤ 100 }
     ensures { Gives (λ x. (x.0, x.1.now)) result (ef_of kind m bytes.now) }
 {
@@ -81,7 +80,7 @@ fn ef_of(kind: Kind, m: u16, bytes: &[u8]) -> Result<(u16, &[u8]), Refused>
 }
 
 #[tactic(auto, unfolding(crate::specs::Reading::lists_of))]
-fn lists_of(kind: Kind, bytes: &[u8]) -> Result<(u32, &[u8]), Refused>
+fn lists_of(kind: Kind, bytes: &[u8]) -> Result<(u32, &[u8]), Stop>
     ensures { Gives (λ x. (x.0, x.1.now)) result (lists_of kind bytes.now) }
 {
     match kind {

@@ -6,15 +6,15 @@ ghost use Rattle.vec_names.specs.Pointer.{heap_id_option_bytes};
 ghost use Rattle.arrayvec.specs.ArrayVec.{array_vec_len};
 ghost use Rattle.vec_tuples.specs.Spelling.{rows_bytes};
 ghost use Rattle.vec_tuples.specs.Reading.{optional_row, no_row, row_of, rows};
-ghost use Rattle.vec_tuples.specs.Answers.{Gives};
+ghost use Rattle.byte_fields.specs.Answers.{Gives};
 
 use crate::pieces::put_six;
-use crate::refused::Refused;
 use arrayvec::ArrayVec;
+use byte_fields::Stop;
 use vec_names::HeapId;
 
 /// The rows in ten places; where they are closed, and behind a place with none, each must have none.
-pub fn rows(closed: bool, bytes: &[u8]) -> Result<(ArrayVec<HeapId, 10>, &[u8]), Refused>
+pub fn rows(closed: bool, bytes: &[u8]) -> Result<(ArrayVec<HeapId, 10>, &[u8]), Stop>
     ensures { Gives (λ x. (x.0.items, x.1.now)) result (rows closed 10 bytes.now) }
 {
     let mut ids = ArrayVec::<HeapId, 10>::new();
@@ -44,7 +44,7 @@ fn keep(ids: &mut ArrayVec<HeapId, 10>, row: Option<HeapId>) -> bool
 }
 
 #[tactic(auto, unfolding(crate::specs::Reading::row_of))]
-fn row_of(closed: bool, bytes: &[u8]) -> Result<(Option<HeapId>, &[u8]), Refused>
+fn row_of(closed: bool, bytes: &[u8]) -> Result<(Option<HeapId>, &[u8]), Stop>
     ensures { Gives (λ x. (x.0, x.1.now)) result (row_of closed bytes.now) }
 {
     if closed {
@@ -55,30 +55,30 @@ fn row_of(closed: bool, bytes: &[u8]) -> Result<(Option<HeapId>, &[u8]), Refused
 }
 
 /// A row, or that there is none.
-#[tactic(auto, unfolding(crate::specs::Reading::optional_row, crate::specs::Reading::field))]
-fn optional_row(bytes: &[u8]) -> Result<(Option<HeapId>, &[u8]), Refused>
+#[tactic(auto, unfolding(crate::specs::Reading::optional_row, byte_fields::specs::Reading::field))]
+fn optional_row(bytes: &[u8]) -> Result<(Option<HeapId>, &[u8]), Stop>
     ensures { Gives (λ x. (x.0, x.1.now)) result (optional_row bytes.now) }
 {
     let Some((front, rest)) = bytes.split_first_chunk::<6>() else {
-        return Err(Refused { left: bytes.len() });
+        return Err(Stop::short(bytes));
     };
     match HeapId::read_option(*front) {
         Some(row) => Ok((row, rest)),
-        None => Err(Refused { left: bytes.len() }),
+        None => Err(Stop::bad(bytes)),
     }
 }
 
 /// That there is no row.
-#[tactic(auto, unfolding(crate::specs::Reading::no_row, crate::specs::Reading::none_alone, crate::specs::Reading::field))]
-fn no_row(bytes: &[u8]) -> Result<(Option<HeapId>, &[u8]), Refused>
+#[tactic(auto, unfolding(crate::specs::Reading::no_row, byte_fields::specs::Reading::none_alone, byte_fields::specs::Reading::field))]
+fn no_row(bytes: &[u8]) -> Result<(Option<HeapId>, &[u8]), Stop>
     ensures { Gives (λ x. (x.0, x.1.now)) result (no_row bytes.now) }
 {
     let Some((front, rest)) = bytes.split_first_chunk::<6>() else {
-        return Err(Refused { left: bytes.len() });
+        return Err(Stop::short(bytes));
     };
     match HeapId::read_option(*front) {
         Some(None) => Ok((None, rest)),
-        _ => Err(Refused { left: bytes.len() }),
+        _ => Err(Stop::bad(bytes)),
     }
 }
 

@@ -3,28 +3,27 @@
 ghost use Rattle.std.specs.Prelude.{◌≡◌, ◌≢◌, ◌≤◌, ◌<◌, ◌+◌, ◌*◌, ◌^◌, ◌++◌, length, vec_len, vec_capacity};
 ghost use Rattle.std.specs.List.{flat_map};
 ghost use Rattle.vec_names.specs.Pointer.{tid_option_bytes};
-ghost use Rattle.vec_tuples.specs.Reading.{times, slot_of, slot_count, is_slot_count};
-ghost use Rattle.vec_tuples.specs.Answers.{Gives, GivesOr, Passes};
+ghost use Rattle.byte_fields.specs.Reading.{times, slot_of};
+ghost use Rattle.byte_fields.specs.Answers.{Gives};
+ghost use Rattle.vec_tuples.specs.Reading.{slot_count, is_slot_count};
+ghost use Rattle.vec_tuples.specs.Answers.{Passes};
 
-use crate::fields::{no_place, optional_place};
-use crate::pieces::put;
-use crate::refused::{Halt, Refused};
-use std::alloc::Global;
-use vec_names::{Listed, Tid};
+use byte_fields::{Stop, put, slot_of};
+use vec_names::Tid;
 
 /// The number of slots, which a level must have beside this `m`.
-#[tactic(auto, unfolding(crate::specs::Reading::slot_count, crate::specs::Reading::field))]
-pub fn slot_count(m: u16, bytes: &[u8]) -> Result<(u16, &[u8]), Refused>
+#[tactic(auto, unfolding(crate::specs::Reading::slot_count, byte_fields::specs::Reading::field))]
+pub fn slot_count(m: u16, bytes: &[u8]) -> Result<(u16, &[u8]), Stop>
     ensures { Gives (λ x. (x.0, x.1.now)) result (slot_count m bytes.now) }
 {
     let Some((front, rest)) = bytes.split_first_chunk::<2>() else {
-        return Err(Refused { left: bytes.len() });
+        return Err(Stop::short(bytes));
     };
     let count = u16::from_le_bytes(*front);
     if is_slot_count(m, count) {
         Ok((count, rest))
     } else {
-        Err(Refused { left: bytes.len() })
+        Err(Stop::bad(bytes))
     }
 }
 
@@ -57,52 +56,13 @@ fn has_level(m: u16, count: u16) -> bool
     count % m == 0
 }
 
-/// So many slots; of a deleted element none names a place.
-pub fn slots(
-    alloc: Global,
-    deleted: bool,
-    count: u16,
-    bytes: &[u8],
-) -> Result<(Listed<Option<Tid>>, &[u8]), Halt>
-    ensures { GivesOr (λ x. (x.0, x.1.now)) result (times (slot_of deleted) count bytes.now) }
-{
-    let mut places = Vec::with_capacity(alloc, count as usize)?;
-    let mut rest = bytes;
-    'places: for _ in 0..count {
-        let (place, after) = slot_of(deleted, rest)?;
-        places.push(place)?;
-        rest = after;
-    }
-    Ok((Listed::from_vec(places), rest))
-}
-
-fn slot_of(deleted: bool, bytes: &[u8]) -> Result<(Option<Tid>, &[u8]), Halt>
-    ensures { GivesOr (λ x. (x.0, x.1.now)) result (slot_of deleted bytes.now) }
-{
-    match one_slot(deleted, bytes) {
-        Ok(read) => Ok(read),
-        Err(refused) => Err(Halt::Bad { left: refused.left }),
-    }
-}
-
-#[tactic(auto, unfolding(crate::specs::Reading::slot_of))]
-fn one_slot(deleted: bool, bytes: &[u8]) -> Result<(Option<Tid>, &[u8]), Refused>
-    ensures { Gives (λ x. (x.0, x.1.now)) result (slot_of deleted bytes.now) }
-{
-    if deleted {
-        no_place(bytes)
-    } else {
-        optional_place(bytes)
-    }
-}
-
 /// The bytes behind so many slots, each of which is looked at. It takes no memory.
-pub fn skip_slots(deleted: bool, count: u16, bytes: &[u8]) -> Result<&[u8], Refused>
+pub fn skip_slots(deleted: bool, count: u16, bytes: &[u8]) -> Result<&[u8], Stop>
     ensures { Passes (λ rest. (count, rest.now)) length result (times (slot_of deleted) count bytes.now) }
 {
     let mut rest = bytes;
     'places: for _ in 0..count {
-        let (_, after) = one_slot(deleted, rest)?;
+        let (_, after) = slot_of(deleted, rest)?;
         rest = after;
     }
     Ok(rest)

@@ -21,4 +21,4 @@ returns-else-is_empty-clause-read c = λ e fits text.
 
 pub returns-in-Err-clause-read : goal.returns-in-Err-clause-read
 returns-in-Err-clause-read c = λ e fits text.
-    absurd (bad_read (element_field c.args.params.now c.requires) c.args.bytes.now c.in-Err.field-0.left (λ i. omega (arith, c.type_inv.bytes i)) c.in-Err.ensures.reads e fits text)
+    absurd (bad_read (element_field c.args.params.now c.requires) c.args.bytes.now c.in-Err.field-0 (λ i. omega (arith, c.type_inv.bytes i)) c.in-Err.ensures.reads e fits text)

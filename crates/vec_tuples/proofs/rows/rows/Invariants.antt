@@ -1,6 +1,6 @@
 use Rattle.std.proofs.Common.{◌≡◌, ◌≤◌, ◌-◌, length}
 use Rattle.vec_tuples.specs.Reading.{rows}
-use Rattle.vec_tuples.proofs.Loops.{with_front}
+use Rattle.byte_fields.proofs.Loops.{with_front}
 use Rattle.vec_tuples.proofs.rows.rows.Given as goal
 
 abbrev pub invariant-places : goal.invariant-places

@@ -1,7 +1,7 @@
 use Rattle.std.proofs.Common.{◌≡◌, ◌-◌, List, Option, length}
 use Rattle.vec_names.specs.declared.tid.Tid.{Tid}
-use Rattle.vec_tuples.specs.Reading.{times, slot_of}
-use Rattle.vec_tuples.proofs.Loops.{with_front}
+use Rattle.byte_fields.proofs.Loops.{with_front}
+use Rattle.byte_fields.specs.Reading.{times, slot_of}
 use Rattle.vec_tuples.proofs.slots.skip_slots.Given as goal
 
 -- some slots were passed
