@@ -9,57 +9,34 @@ use Rattle.std.proofs.lemmas.List.Elements.{All-from_recursion, recursion_from_A
 use Rattle.bit_code.specs.Places.{packed}
 use Rattle.vec_names.specs.Pointer.{tid_option_bytes}
 use Rattle.vec_event.specs.Spelling.{bits_bytes, lists_bytes, offsets_bytes, AreBits, RisesFrom}
-use Rattle.vec_event.specs.Reading.{Got, Reader, times, rising, optional_place, two_bytes_from, two_bytes_above, four_bytes_from, packed_places, bits, lists, offsets}
-use Rattle.vec_event.proofs.FieldLaws.{IsField, got_is, got_not_bad, next_law, depending_law, wider}
-use Rattle.vec_event.proofs.EachField.{optional_place_field, two_bytes_field, above_field, four_bytes_field, packed_field}
+use Rattle.vec_event.specs.Reading.{rising, two_bytes_above, bits, lists, offsets}
+use Rattle.byte_fields.proofs.FieldLaws.{IsField, no_bytes_law, next_law, depending_law, wider}
+use Rattle.byte_fields.proofs.EachField.{no_more, times_field, optional_place_field, two_bytes_field, four_bytes_field, packed_field}
+use Rattle.byte_fields.specs.Reading.{times, optional_place, two_bytes_from, four_bytes_from, packed_places}
+use Rattle.vec_event.proofs.EachField.{above_field}
 
 -- ---- bit values
 
-pub bits_field : IsField bits bits_bytes AreBits (4 + 8000)
+pub bits_field : IsField ⊥ bits bits_bytes AreBits (4 + 8000)
 unfolding bits
 bits_field =
-    depending_law (four_bytes_from 1 64000) packed_places (four_bytes_field 1 64000 (lit< tt)) (λ n p. wider ((n + 7) / 8) 8000 (omega (arith, p.1)) (packed_field n p.0 p.1)) bits_bytes AreBits
+    depending_law (four_bytes_from 1 64000) packed_places (four_bytes_field 1 64000 (lit≤ tt) (lit< tt)) (λ n p. wider ((n + 7) / 8) 8000 (omega (arith, p.1)) (packed_field n p.0 p.1)) bits_bytes AreBits
     (λ e fits. (length e, fits, refl, refl))
     (λ n xs p q. (subst (λ k. (1 ≤ k) × (k ≤ 64000)) (sym q) p, ap (λ k. to_le_bytes w32 k ++ packed xs) q))
 
--- ---- so many values
+-- ---- lists of optional places
 
-module _ {A : Type 0} where
-  no_more : (v : List A) → length v ≡ 0 → v ≡ []
-  no_more [] e = refl
-  no_more (x ∷ v) e = absurd (omega arith)
+any_fits : {A : Type 0} (v : List A) → AllByRecursion (λ _. ⊤) v
+any_fits [] = tt
+any_fits (x ∷ v) = (tt, any_fits v)
 
-  none_field : (f : Reader (List A)) → ((bytes : List ℕ) → f bytes ≡ Got [] bytes) → (spell : List A → List ℕ) (Fits : List A → Type 0) → spell [] ≡ [] → Fits [] → ((v : List A) → Fits v → v ≡ [])
-      → IsField f spell Fits 0
-  none_field f is spell Fits nothing fits only = record {
-    takes = λ bytes v rest bs got.
-        let g = got_is [] v bytes rest (sym (is bytes) ∙ got) in
-        (g.1 ∙ ap (λ (t : List ℕ). t ++ rest) (sym nothing ∙ ap spell g.0), subst Fits g.0 fits);
-    again = λ v rest p. rw (only v p, nothing) (is rest);
-    small = λ v p. rw (only v p, nothing) (lit≤ tt);
-    near = λ bytes left bs bad. absurd (got_not_bad (sym (is bytes) ∙ bad));
-    stays = λ bytes more left bs bad. absurd (got_not_bad (sym (is bytes) ∙ bad));
-  }
-
-  some_more : (n : ℕ) (v : List A) → length v ≡ suc n → (x : A) × (xs : List A) × (v ≡ x ∷ xs) × (length xs ≡ n)
-  some_more n [] e = absurd (omega arith)
-  some_more n (x ∷ xs) e = (x, xs, refl, omega arith)
-
-  pub times_field : (f : Reader A) (spell : A → List ℕ) (k : ℕ) → IsField f spell (λ _. ⊤) k → (n : ℕ) → IsField (times f n) (flat_map spell) (λ v. length v ≡ n) (n * k)
-  unfolding times
-  times_field f spell k law zero = wider 0 (0 * k) (omega arith) (none_field (times f zero) (λ bytes. refl) (flat_map spell) (λ v. length v ≡ 0) refl refl no_more)
-  times_field f spell k law (suc n) =
-      wider (k + n * k) (suc n * k) (omega arith) (next_law (λ v vs. v ∷ vs) f (λ _. times f n) law (λ _ _. times_field f spell k law n) (flat_map spell) (λ v. length v ≡ suc n)
-      (λ e p. let m = some_more n e p in (m.0, m.1, sym m.2, tt, m.3, ap (flat_map spell) m.2 ∙ flat_map-cons spell m.0 m.1))
-      (λ v vs _ q. (ap suc q, flat_map-cons spell v vs)))
-
-pub lists_field : IsField lists lists_bytes (λ v. length v ≤ 1358) (2 + 1358 * 6)
+pub lists_field : IsField ⊥ lists lists_bytes (λ v. length v ≤ 1358) (2 + 1358 * 6)
 unfolding lists
 lists_field =
-    depending_law (two_bytes_from 0 1358) (times optional_place) (two_bytes_field 0 1358 (lit< tt))
-    (λ n p. wider (n * 6) (1358 * 6) (omega (arith, p.1)) (times_field optional_place tid_option_bytes 6 optional_place_field n)) lists_bytes (λ v. length v ≤ 1358)
-    (λ e fits. (length e, (omega arith, fits), refl, refl))
-    (λ n v p q. (subst (λ k. k ≤ 1358) (sym q) p.1, ap (λ k. to_le_bytes w16 k ++ flat_map tid_option_bytes v) q))
+    depending_law (two_bytes_from 0 1358) (times optional_place) (two_bytes_field 0 1358 (lit≤ tt) (lit< tt))
+    (λ n p. wider (n * 6) (1358 * 6) (omega (arith, p.1)) (times_field optional_place tid_option_bytes (λ _. ⊤) 6 optional_place_field n)) lists_bytes (λ v. length v ≤ 1358)
+    (λ e fits. (length e, (omega arith, fits), (refl, any_fits e), refl))
+    (λ n v p q. (subst (λ k. k ≤ 1358) (sym q.0) p.1, ap (λ k. to_le_bytes w16 k ++ flat_map tid_option_bytes v) q.0))
 
 -- ---- offsets that rise
 
@@ -72,10 +49,10 @@ rising_more : (n low : ℕ) (v : List ℕ) → (length v ≡ suc n) × Offsets l
 rising_more n low [] p = absurd (omega (arith, p.0))
 rising_more n low (x ∷ xs) p = (x, xs, refl, p.1.0, omega (arith, p.0), p.1.1)
 
-rising_field : (n low : ℕ) → IsField (rising low n) (flat_map (to_le_bytes w16)) (λ v. (length v ≡ n) × Offsets low v) (n * 2)
+rising_field : (n low : ℕ) → IsField ⊥ (rising low n) (flat_map (to_le_bytes w16)) (λ v. (length v ≡ n) × Offsets low v) (n * 2)
 unfolding rising
 rising_field zero low =
-    wider 0 (0 * 2) (omega arith) (none_field (rising low zero) (λ bytes. refl) (flat_map (to_le_bytes w16)) (λ v. (length v ≡ 0) × Offsets low v) refl (refl, tt) (λ v p. no_more v p.0))
+    wider 0 (0 * 2) (omega arith) (no_bytes_law (rising low zero) [] (flat_map (to_le_bytes w16)) (λ v. (length v ≡ 0) × Offsets low v) (λ bytes. refl) refl (refl, tt) (λ v p. no_more v p.0))
 rising_field (suc n) low =
     wider (2 + n * 2) (suc n * 2) (omega arith) (next_law (λ v vs. v ∷ vs) (two_bytes_above low) (λ v. rising v n) (above_field low) (λ v _. rising_field n v) (flat_map (to_le_bytes w16)) (λ v. (length v ≡ suc n) × Offsets low v)
     (λ e p. let m = rising_more n low e p in (m.0, m.1, sym m.2, m.3, (m.4, m.5), ap (flat_map (to_le_bytes w16)) m.2 ∙ flat_map-cons (to_le_bytes w16) m.0 m.1))
@@ -85,10 +62,10 @@ few_offsets : (low : ℕ) (v : List ℕ) → low < 2 ^ 16 → Offsets low v → 
 few_offsets low [] small p = omega arith
 few_offsets low (x ∷ xs) small p = omega (arith, p.0.0, few_offsets x xs p.0.1 p.1)
 
-pub offsets_field : IsField offsets offsets_bytes (λ v. (1 ≤ length v) × Offsets 0 v) (2 + 65535 * 2)
+pub offsets_field : IsField ⊥ offsets offsets_bytes (λ v. (1 ≤ length v) × Offsets 0 v) (2 + 65535 * 2)
 unfolding offsets
 offsets_field =
-    depending_law (two_bytes_from 1 65535) (rising 0) (two_bytes_field 1 65535 (lit< tt)) (λ n p. wider (n * 2) (65535 * 2) (omega (arith, p.1)) (rising_field n 0)) offsets_bytes (λ v. (1 ≤ length v) × Offsets 0 v)
+    depending_law (two_bytes_from 1 65535) (rising 0) (two_bytes_field 1 65535 (lit≤ tt) (lit< tt)) (λ n p. wider (n * 2) (65535 * 2) (omega (arith, p.1)) (rising_field n 0)) offsets_bytes (λ v. (1 ≤ length v) × Offsets 0 v)
     (λ e fits. (length e, (fits.0, omega (arith, few_offsets 0 e (lit< tt) fits.1)), (refl, fits.1), refl))
     (λ n v p q. ((subst (λ k. 1 ≤ k) (sym q.0) p.0, q.1), ap (λ k. to_le_bytes w16 k ++ flat_map (to_le_bytes w16) v) q.0))
 

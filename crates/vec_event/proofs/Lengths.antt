@@ -8,8 +8,8 @@ use Rattle.vec_names.specs.declared.tid.Tid.{Tid}
 use Rattle.vec_names.specs.Pointer.{pointer_bytes, tid_option_bytes}
 use Rattle.vec_names.proofs.Pointers.{length-pointer_bytes}
 use Rattle.vec_event.specs.Spelling.{bits_bytes, lists_bytes, offsets_bytes}
-use Rattle.vec_event.proofs.EachField.{length-tid_option_bytes}
 use Rattle.bit_code.proofs.ExactPacking.{length-packed}
+use Rattle.byte_fields.proofs.EachField.{length-tid_option_bytes}
 
 each_length : {A : Type 0} (text : A → List ℕ) (k : ℕ) → ((x : A) → length (text x) ≡ k) → (xs : List A) → length (flat_map text xs) ≡ k * length xs
 each_length text k long [] = omega arith

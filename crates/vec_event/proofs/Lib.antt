@@ -1,6 +1,4 @@
-pub mod Clear
 pub mod Loops
-pub mod FieldLaws
 pub mod EachField
 pub mod CountedFields
 pub mod EachKind

@@ -5,8 +5,9 @@ use Rattle.std.proofs.lemmas.List.Concat.{flat_map-cons}
 use Rattle.std.proofs.lemmas.List.{append-nil, length-append, drop_at}
 use Rattle.vec_event.specs.declared.event.Event.{Event}
 use Rattle.vec_event.specs.Spelling.{spelling, IsTyped, IsWritable}
-use Rattle.vec_event.specs.Reading.{Got, Bad, Short, kind, field, event}
-use Rattle.vec_event.proofs.FieldLaws.{AreBytes, got_is, got_not_bad}
+use Rattle.vec_event.specs.Reading.{event}
+use Rattle.byte_fields.proofs.FieldLaws.{AreBytes, got_is, got_not_bad, got_not_short}
+use Rattle.byte_fields.specs.Reading.{Got, Bad, Short, as_bad, byte_from, field}
 use Rattle.vec_event.proofs.EachEvent.{event_field}
 
 pub again : (e : Event) (bytes rest : List ℕ) → IsTyped e → IsWritable e → bytes ≡ spelling e ++ rest → event bytes ≡ Got e rest
@@ -14,9 +15,6 @@ again e bytes rest typed writable text = rw text (event_field.again e rest (type
 
 whole : (e : Event) (bytes : List ℕ) → IsTyped e → IsWritable e → spelling e ≡ bytes → event bytes ≡ Got e []
 whole e bytes typed writable text = again e bytes [] typed writable (sym (append-nil (spelling e) ∙ text))
-
-got_not_short : {A : Type 0} {v : A} {rest : List ℕ} → Got v rest ≡ Short → ⊥
-got_not_short e = cc
 
 no_more : (rest more : List ℕ) → rest ++ more ≡ [] → more ≡ []
 no_more [] more e = e
@@ -60,10 +58,10 @@ module _ (bytes : List ℕ) (e : Event) (rest : List ℕ) (bs : AreBytes bytes) 
 
 module _ (bytes : List ℕ) (left : ℕ) (bs : AreBytes bytes) (is : event bytes ≡ Bad left) where
   pub bad_inside : left ≤ length bytes
-  bad_inside = (event_field.near bytes left bs is).0
+  bad_inside = (event_field.near bytes left bs (ap (λ r. as_bad r) is)).0
 
   pub bad_near : length bytes - left < 2 ^ 32
-  bad_near = omega (arith, (event_field.near bytes left bs is).1)
+  bad_near = omega (arith, (event_field.near bytes left bs (ap (λ r. as_bad r) is)).1)
 
   pub bad_read : (other : Event) (more : List ℕ) → IsTyped other → IsWritable other → bytes ≡ spelling other ++ more → ⊥
   bad_read other more typed writable spelled = got_not_bad (sym (again other bytes more typed writable spelled) ∙ is)
@@ -76,8 +74,8 @@ module _ (bytes : List ℕ) (left : ℕ) (bs : AreBytes bytes) (is : event bytes
       let back : length bytes - (length bytes - left) ≡ left = omega (arith, bad_inside) in
       (omega arith, is ∙ ap (λ n. Bad n) (sym back))
 
-pub short_read : (bytes : List ℕ) → event bytes ≡ Short → (other : Event) (more : List ℕ) → IsTyped other → IsWritable other → bytes ≡ spelling other ++ more → ⊥
-short_read bytes is other more typed writable spelled = got_not_short (sym (again other bytes more typed writable spelled) ∙ is)
+pub short_read : (bytes : List ℕ) (left : ℕ) → event bytes ≡ Short left → (other : Event) (more : List ℕ) → IsTyped other → IsWritable other → bytes ≡ spelling other ++ more → ⊥
+short_read bytes left is other more typed writable spelled = got_not_short (sym (again other bytes more typed writable spelled) ∙ is)
 
 -- ---- one reading
 
@@ -85,8 +83,8 @@ pub one_event : (a b : Event) (x y : List ℕ) → IsTyped a → IsWritable a �
 one_event a b x y typed writable other_typed other_writable same =
     got_is a b x y (sym (again a (spelling a ++ x) x typed writable refl) ∙ again b (spelling a ++ x) y other_typed other_writable same)
 
-nothing_read : event [] ≡ Short
-unfolding event kind field
+nothing_read : event [] ≡ Short 0
+unfolding event byte_from field
 nothing_read = refl
 
 not_empty : (e : Event) (rest : List ℕ) → IsTyped e → IsWritable e → [] ≡ spelling e ++ rest → ⊥

@@ -1,26 +1,25 @@
 //! The fields of each kind of event, in their order.
 
 ghost use Rattle.std.specs.Prelude.{◌≡◌, length};
+ghost use Rattle.byte_fields.specs.Answers.{Gives, GivesOr};
 ghost use Rattle.vec_event.specs.Reading.{put, join, link, relist, drop_ids, mark, entry, hint, block, ivf_add, ivf_grow, ivf_drop, ivf_hint};
-ghost use Rattle.vec_event.specs.Answers.{Gives};
 
 use crate::counted::{bits, lists, offsets};
 use crate::event::Event;
-use crate::fields::{
-    byte, four_bytes_from, heap_id, level, number_of_two, optional_place, place, two_bytes_from,
-    version,
+use byte_fields::{
+    Halt, Stop, byte_from, four_bytes_from, heap_id, level_of, optional_place, place,
+    two_bytes_from,
 };
-use crate::halt::Halt;
 use std::alloc::Global;
 
 #[tactic(auto, unfolding(crate::specs::Reading::put))]
 pub fn put(alloc: Global, bytes: &[u8]) -> Result<(Event, &[u8]), Halt>
-    ensures { Gives (λ x. (x.0, x.1.now)) result (put bytes.now) }
+    ensures { GivesOr (λ x. (x.0, x.1.now)) result (put bytes.now) }
 {
     let (at, rest) = place(bytes)?;
     let (list_at, rest) = place(rest)?;
-    let (version, rest) = version(rest)?;
-    let (level, rest) = byte(rest)?;
+    let (version, rest) = byte_from(1, 255, rest)?;
+    let (level, rest) = byte_from(0, 255, rest)?;
     let (id, rest) = heap_id(rest)?;
     let (bits, rest) = bits(alloc, rest)?;
     let (lists, rest) = lists(alloc, rest)?;
@@ -38,22 +37,22 @@ pub fn put(alloc: Global, bytes: &[u8]) -> Result<(Event, &[u8]), Halt>
 
 #[tactic(auto, unfolding(crate::specs::Reading::join))]
 pub fn join(bytes: &[u8]) -> Result<(Event, &[u8]), Halt>
-    ensures { Gives (λ x. (x.0, x.1.now)) result (join bytes.now) }
+    ensures { GivesOr (λ x. (x.0, x.1.now)) result (join bytes.now) }
 {
     let (at, rest) = place(bytes)?;
-    let (version, rest) = version(rest)?;
+    let (version, rest) = byte_from(1, 255, rest)?;
     let (id, rest) = heap_id(rest)?;
     Ok((Event::Join { at, version, id }, rest))
 }
 
 #[tactic(auto, unfolding(crate::specs::Reading::link))]
 pub fn link(bytes: &[u8]) -> Result<(Event, &[u8]), Halt>
-    ensures { Gives (λ x. (x.0, x.1.now)) result (link bytes.now) }
+    ensures { GivesOr (λ x. (x.0, x.1.now)) result (link bytes.now) }
 {
     let (at, rest) = place(bytes)?;
     let (list_at, rest) = place(rest)?;
-    let (version, rest) = version(rest)?;
-    let (slot, rest) = number_of_two(rest)?;
+    let (version, rest) = byte_from(1, 255, rest)?;
+    let (slot, rest) = two_bytes_from(0, 65_535, rest)?;
     let (to, rest) = place(rest)?;
     let event = Event::Link {
         at,
@@ -67,11 +66,11 @@ pub fn link(bytes: &[u8]) -> Result<(Event, &[u8]), Halt>
 
 #[tactic(auto, unfolding(crate::specs::Reading::relist))]
 pub fn relist(alloc: Global, bytes: &[u8]) -> Result<(Event, &[u8]), Halt>
-    ensures { Gives (λ x. (x.0, x.1.now)) result (relist bytes.now) }
+    ensures { GivesOr (λ x. (x.0, x.1.now)) result (relist bytes.now) }
 {
     let (at, rest) = place(bytes)?;
     let (list_at, rest) = place(rest)?;
-    let (version, rest) = version(rest)?;
+    let (version, rest) = byte_from(1, 255, rest)?;
     let (lists, rest) = lists(alloc, rest)?;
     let event = Event::Relist {
         at,
@@ -84,21 +83,21 @@ pub fn relist(alloc: Global, bytes: &[u8]) -> Result<(Event, &[u8]), Halt>
 
 #[tactic(auto, unfolding(crate::specs::Reading::drop_ids))]
 pub fn drop_ids(bytes: &[u8]) -> Result<(Event, &[u8]), Halt>
-    ensures { Gives (λ x. (x.0, x.1.now)) result (drop_ids bytes.now) }
+    ensures { GivesOr (λ x. (x.0, x.1.now)) result (drop_ids bytes.now) }
 {
     let (at, rest) = place(bytes)?;
-    let (version, rest) = version(rest)?;
+    let (version, rest) = byte_from(1, 255, rest)?;
     let (gone, rest) = two_bytes_from(1, 1_023, rest)?;
     Ok((Event::Drop { at, version, gone }, rest))
 }
 
 #[tactic(auto, unfolding(crate::specs::Reading::mark))]
 pub fn mark(bytes: &[u8]) -> Result<(Event, &[u8]), Halt>
-    ensures { Gives (λ x. (x.0, x.1.now)) result (mark bytes.now) }
+    ensures { GivesOr (λ x. (x.0, x.1.now)) result (mark bytes.now) }
 {
     let (at, rest) = place(bytes)?;
     let (list_at, rest) = place(rest)?;
-    let (version, rest) = version(rest)?;
+    let (version, rest) = byte_from(1, 255, rest)?;
     let event = Event::Mark {
         at,
         list_at,
@@ -109,16 +108,16 @@ pub fn mark(bytes: &[u8]) -> Result<(Event, &[u8]), Halt>
 
 #[tactic(auto, unfolding(crate::specs::Reading::entry))]
 pub fn entry(bytes: &[u8]) -> Result<(Event, &[u8]), Halt>
-    ensures { Gives (λ x. (x.0, x.1.now)) result (entry bytes.now) }
+    ensures { GivesOr (λ x. (x.0, x.1.now)) result (entry bytes.now) }
 {
     let (to, rest) = optional_place(bytes)?;
-    let (level, rest) = level(to, rest)?;
+    let (level, rest) = level_of(to, rest)?;
     Ok((Event::Entry { to, level }, rest))
 }
 
 #[tactic(auto, unfolding(crate::specs::Reading::hint))]
 pub fn hint(bytes: &[u8]) -> Result<(Event, &[u8]), Halt>
-    ensures { Gives (λ x. (x.0, x.1.now)) result (hint bytes.now) }
+    ensures { GivesOr (λ x. (x.0, x.1.now)) result (hint bytes.now) }
 {
     let (block, rest) = four_bytes_from(0, 32_768, bytes)?;
     Ok((Event::Hint { block }, rest))
@@ -126,7 +125,7 @@ pub fn hint(bytes: &[u8]) -> Result<(Event, &[u8]), Halt>
 
 #[tactic(auto, unfolding(crate::specs::Reading::ivf_add))]
 pub fn ivf_add(alloc: Global, bytes: &[u8]) -> Result<(Event, &[u8]), Halt>
-    ensures { Gives (λ x. (x.0, x.1.now)) result (ivf_add bytes.now) }
+    ensures { GivesOr (λ x. (x.0, x.1.now)) result (ivf_add bytes.now) }
 {
     let (block, rest) = block(bytes)?;
     let (id, rest) = heap_id(rest)?;
@@ -136,7 +135,7 @@ pub fn ivf_add(alloc: Global, bytes: &[u8]) -> Result<(Event, &[u8]), Halt>
 
 #[tactic(auto, unfolding(crate::specs::Reading::ivf_grow))]
 pub fn ivf_grow(alloc: Global, bytes: &[u8]) -> Result<(Event, &[u8]), Halt>
-    ensures { Gives (λ x. (x.0, x.1.now)) result (ivf_grow bytes.now) }
+    ensures { GivesOr (λ x. (x.0, x.1.now)) result (ivf_grow bytes.now) }
 {
     let (list, rest) = block(bytes)?;
     let (last, rest) = block(rest)?;
@@ -155,7 +154,7 @@ pub fn ivf_grow(alloc: Global, bytes: &[u8]) -> Result<(Event, &[u8]), Halt>
 
 #[tactic(auto, unfolding(crate::specs::Reading::ivf_drop))]
 pub fn ivf_drop(alloc: Global, bytes: &[u8]) -> Result<(Event, &[u8]), Halt>
-    ensures { Gives (λ x. (x.0, x.1.now)) result (ivf_drop bytes.now) }
+    ensures { GivesOr (λ x. (x.0, x.1.now)) result (ivf_drop bytes.now) }
 {
     let (block, rest) = block(bytes)?;
     let (gone, rest) = offsets(alloc, rest)?;
@@ -164,7 +163,7 @@ pub fn ivf_drop(alloc: Global, bytes: &[u8]) -> Result<(Event, &[u8]), Halt>
 
 #[tactic(auto, unfolding(crate::specs::Reading::ivf_hint))]
 pub fn ivf_hint(bytes: &[u8]) -> Result<(Event, &[u8]), Halt>
-    ensures { Gives (λ x. (x.0, x.1.now)) result (ivf_hint bytes.now) }
+    ensures { GivesOr (λ x. (x.0, x.1.now)) result (ivf_hint bytes.now) }
 {
     let (list, rest) = block(bytes)?;
     let (block, rest) = block(rest)?;
@@ -172,7 +171,7 @@ pub fn ivf_hint(bytes: &[u8]) -> Result<(Event, &[u8]), Halt>
 }
 
 /// The number of a block or of a list, 0 to 32,767.
-fn block(bytes: &[u8]) -> Result<(u32, &[u8]), Halt>
+fn block(bytes: &[u8]) -> Result<(u32, &[u8]), Stop>
     ensures { Gives (λ x. (x.0, x.1.now)) result (block bytes.now) }
 {
     four_bytes_from(0, 32_767, bytes)

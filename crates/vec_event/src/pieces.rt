@@ -7,19 +7,8 @@ ghost use Rattle.vec_names.specs.Pointer.{tid_option_bytes};
 ghost use Rattle.vec_event.specs.Spelling.{bits_bytes, lists_bytes, offsets_bytes, RisesFrom};
 
 use bit_code::Bits;
+use byte_fields::put;
 use vec_names::Tid;
-
-pub fn put(into: &mut Vec<u8>, bytes: &[u8])
-    requires { vec_len into.old + length bytes.now ≤ vec_capacity into.old }
-    ensures items { into.new.items ≡ into.old.items ++ bytes.now }
-    ensures len { vec_len into.new ≡ vec_len into.old + length bytes.now }
-    ensures capacity { vec_capacity into.old ≤ vec_capacity into.new }
-{
-    match into.extend_from_slice(bytes) {
-        Ok(()) => (),
-        Err(_) => unreachable!(),
-    }
-}
 
 pub fn put_bits(into: &mut Vec<u8>, bits: &Bits)
     requires { vec_len into.old + length (bits_bytes bits.now) ≤ vec_capacity into.old }

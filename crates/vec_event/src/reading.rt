@@ -2,7 +2,8 @@
 
 ghost use Rattle.std.specs.Prelude.{◌≡◌, ◌≢◌, ◌≤◌, ◌++◌, ℕ, List, [], length, drop, IfOk, MatchResult};
 ghost use Rattle.vec_event.specs.Reading.{fields_of, event};
-ghost use Rattle.vec_event.specs.Answers.{Gives, IsReading};
+ghost use Rattle.byte_fields.specs.Answers.{GivesOr};
+ghost use Rattle.vec_event.specs.Answers.{IsReading};
 ghost use Rattle.vec_event.specs.Spelling.{spelling, IsTyped, IsWritable};
 ghost use Rattle.vec_event.specs.declared.event.Event.{Event};
 
@@ -11,8 +12,7 @@ use crate::changes::{
 };
 use crate::event::Event;
 use crate::fault::EventFault;
-use crate::fields::kind;
-use crate::halt::Halt;
+use byte_fields::{Cause, Halt, byte_from};
 use std::alloc::Global;
 
 /// The event that the bytes begin with, and the number of its bytes. Other bytes may follow.
@@ -42,25 +42,27 @@ pub fn read_event(alloc: Global, bytes: &[u8]) -> Result<(Event, usize), EventFa
     match event(alloc, bytes) {
         Ok((event, rest)) => Ok((event, bytes.len() - rest.len())),
         Err(Halt::Memory) => Err(EventFault::Memory),
-        Err(Halt::Short) => Err(EventFault::Short),
-        Err(Halt::Bad { left }) => Err(EventFault::Bad {
-            at: (bytes.len() - left) as u32,
-        }),
+        Err(Halt::Stopped(stop)) => match stop.cause {
+            Cause::Short => Err(EventFault::Short),
+            Cause::Bad => Err(EventFault::Bad {
+                at: (bytes.len() - stop.left) as u32,
+            }),
+        },
     }
 }
 
 #[tactic(auto, unfolding(crate::specs::Reading::event))]
 fn event(alloc: Global, bytes: &[u8]) -> Result<(Event, &[u8]), Halt>
-    ensures { Gives (λ x. (x.0, x.1.now)) result (event bytes.now) }
+    ensures { GivesOr (λ x. (x.0, x.1.now)) result (event bytes.now) }
 {
-    let (kind, rest) = kind(bytes)?;
+    let (kind, rest) = byte_from(1, 12, bytes)?;
     fields_of(alloc, kind, rest)
 }
 
 /// The fields of an event of this kind.
 #[tactic(auto, unfolding(crate::specs::Reading::fields_of))]
 fn fields_of(alloc: Global, kind: u8, bytes: &[u8]) -> Result<(Event, &[u8]), Halt>
-    ensures { Gives (λ x. (x.0, x.1.now)) result (fields_of kind bytes.now) }
+    ensures { GivesOr (λ x. (x.0, x.1.now)) result (fields_of kind bytes.now) }
 {
     match kind {
         1 => put(alloc, bytes),

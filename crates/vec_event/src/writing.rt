@@ -5,9 +5,10 @@ ghost use Rattle.vec_event.specs.Spelling.{spelling, bits_bytes, lists_bytes, of
 
 use crate::event::Event;
 use crate::fault::EventFault;
-use crate::pieces::{put, put_bits, put_lists, put_offsets};
+use crate::pieces::{put_bits, put_lists, put_offsets};
 use crate::sizes::event_size;
 use bit_code::Bits;
+use byte_fields::put;
 use vec_names::{HeapId, Tid};
 
 /// Appends the spelling of a lasting event with no value that is not allowed, as `read_event` reads it.

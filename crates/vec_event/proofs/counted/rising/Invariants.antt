@@ -1,6 +1,6 @@
 use Rattle.std.proofs.Common.{◌≡◌, ◌-◌}
 use Rattle.vec_event.specs.Reading.{rising}
-use Rattle.vec_event.proofs.Loops.{with_front}
+use Rattle.byte_fields.proofs.Loops.{with_front}
 use Rattle.vec_event.proofs.counted.rising.Given as goal
 
 abbrev pub invariant-offsets : goal.invariant-offsets
