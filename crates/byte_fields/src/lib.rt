@@ -20,3 +20,6 @@ pub use optional::{no_place, slot_of, slots};
 pub use packed::packed_places;
 pub use pieces::put;
 pub use stop::{Cause, Halt, Stop};
+
+#[cfg(test)]
+mod tests;

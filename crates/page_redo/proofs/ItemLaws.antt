@@ -3,22 +3,24 @@ use Rattle.std.proofs.Common.{◌≡◌, ℕ, Bool, List, [], ◌∷◌, Option,
 use Rattle.std.proofs.lemmas.List.{append-nil}
 use Rattle.std.specs.Option.{option_map, option_and_then}
 use Rattle.page_bytes.specs.Content.{Content, item_at}
-use Rattle.vec_tuples.specs.Reading.{Read, Got, Bad, Reader}
-use Rattle.vec_tuples.proofs.FieldLaws.{AreBytes, IsField}
+use Rattle.std.specs.Prelude.{⊤}
+use Rattle.byte_fields.specs.Reading.{Read, Got, Bad, Short, Reader}
+use Rattle.byte_fields.proofs.FieldLaws.{AreBytes, IsField}
+use Rattle.byte_fields.proofs.EachField.{some_is}
 use Rattle.vec_names.specs.declared.params.Params.{Params}
 use Rattle.vec_tuples.specs.declared.element.Element.{Element}
 use Rattle.vec_tuples.specs.declared.element.ElementHead.{ElementHead}
 use Rattle.vec_tuples.specs.declared.links.Links.{Links}
 use Rattle.vec_tuples.specs.declared.centre.CentreTuple.{CentreTuple}
 use Rattle.vec_tuples.specs.Spelling.{IsElement, element_with, element_bytes, head_of_element, IsLinks, links_bytes, head_of_links, IsCentre, centre_bytes, head_of_centre}
-use Rattle.vec_tuples.proofs.EachField.{some_is}
 use Rattle.page_redo.specs.Items.{in_whole, read_at, element_at, links_at, centre_at}
 
-module _ {A : Type 0} {f : Reader A} {spell : A → List ℕ} {Fits : A → Type 0} {most : ℕ} (law : IsField f spell Fits most) where
+module _ {A : Type 0} {f : Reader A} {spell : A → List ℕ} {Fits : A → Type 0} {most : ℕ} (law : IsField ⊤ f spell Fits most) where
   in_whole_got : (r : Read A) (v : A) → in_whole r ≡ Some v → r ≡ Got v []
   in_whole_got (Got w []) v is = let e : w ≡ v = cc in ap (λ x. Got x []) e
   in_whole_got (Got w (b ∷ bs)) v is = absurd cc
   in_whole_got (Bad left) v is = absurd cc
+  in_whole_got (Short left) v is = absurd cc
 
   pub whole_spelled : (x : List ℕ) (v : A) → AreBytes x → in_whole (f x) ≡ Some v → Fits v × (x ≡ spell v)
   whole_spelled x v bytes is =

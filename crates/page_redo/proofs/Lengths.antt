@@ -8,7 +8,8 @@ use Rattle.vec_tuples.specs.declared.element.Element.{Element}
 use Rattle.vec_tuples.specs.declared.centre.CentreTuple.{CentreTuple}
 use Rattle.vec_tuples.specs.declared.meta.Meta.{Meta}
 use Rattle.vec_tuples.specs.Spelling.{element_bytes, bits_bytes, length_word, head_of_element, head_bytes, centre_bytes, meta_bytes}
-use Rattle.vec_tuples.proofs.EachField.{length-tid_option_bytes, packed_long}
+use Rattle.byte_fields.proofs.EachField.{length-tid_option_bytes}
+use Rattle.vec_tuples.proofs.EachField.{packed_long}
 use Rattle.vec_tuples.proofs.ElementLaws.{length-head_bytes}
 
 pub bits_long : (bits : List Bool) → 8 ≤ length (bits_bytes bits)

@@ -11,7 +11,8 @@ use Rattle.vec_tuples.specs.declared.element.Element.{Element}
 use Rattle.vec_tuples.specs.declared.element.ElementHead.{ElementHead}
 use Rattle.vec_tuples.specs.declared.links.Links.{Links}
 use Rattle.vec_tuples.specs.Spelling.{element_bytes, head_bytes, head_of_element, head_of_links, links_bytes, links_with}
-use Rattle.vec_tuples.specs.Reading.{element, links, field, byte_from}
+use Rattle.byte_fields.specs.Reading.{field, byte_from}
+use Rattle.vec_tuples.specs.Reading.{element, links}
 use Rattle.vec_graph.specs.Effect.{next_version}
 use Rattle.page_redo.specs.Items.{in_whole, with_item, with_head, head_changed, links_changed, element_at, links_at, is_graph, is_graph_page}
 use Rattle.page_redo.specs.Roles.{when, if_so, on_graph, put, put_over, put_element, put_links, is_node, is_old_element, are_old_links, new_element, is_current, marked, emptied}

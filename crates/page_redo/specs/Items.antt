@@ -13,7 +13,8 @@ use Rattle.vec_tuples.specs.declared.element.ElementHead.{ElementHead}
 use Rattle.vec_tuples.specs.declared.links.Links.{Links}
 use Rattle.vec_tuples.specs.declared.centre.CentreTuple.{CentreTuple}
 use Rattle.vec_tuples.specs.Spelling.{element_bytes, element_with, beside, head_of_element, links_bytes, meta_bytes, centre_bytes}
-use Rattle.vec_tuples.specs.Reading.{Read, Got, Bad, Reader, element, links, meta, centre}
+use Rattle.byte_fields.specs.Reading.{Read, Got, Bad, Short, Reader}
+use Rattle.vec_tuples.specs.Reading.{element, links, meta, centre}
 
 -- ---- what stands there
 
@@ -22,6 +23,7 @@ abbrev pub in_whole : {A : Type 0} → Read A → Option A
 in_whole (Got v []) = Some v
 in_whole (Got v (b ∷ bs)) = None
 in_whole (Bad left) = None
+in_whole (Short left) = None
 
 -- the item at an offset as a whole, where it reads so
 abbrev pub read_at : {A : Type 0} → Reader A → Content → ℕ → Option A
