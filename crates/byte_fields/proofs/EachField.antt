@@ -12,7 +12,7 @@ use Rattle.bit_code.proofs.ExactPacking.{length-packed, packed-Packed, unpacked-
 use Rattle.vec_names.specs.declared.tid.Tid.{Tid}
 use Rattle.vec_names.specs.Pointer.{tid_bytes, tid_option_bytes, heap_id_bytes, tid_in, tid_option_in, heap_id_in, block_in, off_in}
 use Rattle.vec_names.proofs.Pointers.{length-pointer_bytes, pointer_bytes-back, tid_in-again, tid_of-spelled, tid_option_in-again, tid_option_of-spelled, heap_id_in-again, heap_id_of-spelled}
-use Rattle.byte_fields.specs.Reading.{Reader, times, only_if, only_from, byte_from, two_bytes_from, four_bytes_from, place, optional_place, heap_id, level_of, packed_places, none_alone, no_place, slot_of}
+use Rattle.byte_fields.specs.Reading.{Reader, times, only_if, only_from, byte_from, two_bytes_from, four_bytes_from, place, optional_place, heap_id, level_beside, packed_places, none_alone, no_place, slot_of}
 use Rattle.byte_fields.proofs.Clear.{clear_packed, packed_clear}
 use Rattle.byte_fields.proofs.FieldLaws.{AreBytes, IsField, field_law, next_law, no_bytes_law, wider, fitting}
 
@@ -83,8 +83,8 @@ abbrev pub FitsLevel : Option Tid → ℕ → Type 0
 FitsLevel None v = v ≡ 0
 FitsLevel (Some at) v = v < 2 ^ 8
 
-pub level_field : {Live : Type 0} (entry : Option Tid) → IsField Live (level_of entry) one_byte (FitsLevel entry) 1
-unfolding level_of
+pub level_field : {Live : Type 0} (entry : Option Tid) → IsField Live (level_beside entry) one_byte (FitsLevel entry) 1
+unfolding level_beside
 level_field None = fitting (λ v. v ≡ 0) (λ v p. omega (arith, p.1)) (λ v p. (omega arith, omega (arith, p))) (byte_field 0 0 (lit≤ tt))
 level_field (Some at) = fitting (λ v. v < 2 ^ 8) (λ v p. omega (arith, p.1)) (λ v p. (omega arith, omega (arith, p))) (byte_field 0 255 (lit≤ tt))
 

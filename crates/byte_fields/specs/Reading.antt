@@ -98,9 +98,9 @@ unfoldable pub heap_id : Reader HeapId
 heap_id = field 6 heap_id_in
 
 -- a level beside the place of an entry; where there is none, 0 alone
-unfoldable pub level_of : Option Tid → Reader ℕ
-level_of None = byte_from 0 0
-level_of (Some at) = byte_from 0 255
+unfoldable pub level_beside : Option Tid → Reader ℕ
+level_beside None = byte_from 0 0
+level_beside (Some at) = byte_from 0 255
 
 -- the places of a bit value, no unused bit being set
 unfoldable pub packed_places : ℕ → Reader (List Bool)

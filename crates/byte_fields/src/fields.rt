@@ -1,7 +1,7 @@
 //! Numbers, places and heap ids, each read from the front of the bytes.
 
 ghost use Rattle.std.specs.Prelude.{◌≡◌, ◌≤◌, IfOk};
-ghost use Rattle.byte_fields.specs.Reading.{byte_from, two_bytes_from, four_bytes_from, place, optional_place, heap_id, level_of};
+ghost use Rattle.byte_fields.specs.Reading.{byte_from, two_bytes_from, four_bytes_from, place, optional_place, heap_id, level_beside};
 ghost use Rattle.byte_fields.specs.Answers.{Gives};
 
 use crate::stop::Stop;
@@ -109,9 +109,9 @@ pub fn heap_id(bytes: &[u8]) -> Result<(HeapId, &[u8]), Stop>
 
 /// The level of an entry, a byte; 0 alone where there is no entry.
 #[inline]
-#[tactic(auto, unfolding(crate::specs::Reading::level_of))]
-pub fn level_of(entry: Option<Tid>, bytes: &[u8]) -> Result<(u8, &[u8]), Stop>
-    ensures { Gives (λ x. (x.0, x.1.now)) result (level_of entry bytes.now) }
+#[tactic(auto, unfolding(crate::specs::Reading::level_beside))]
+pub fn level_beside(entry: Option<Tid>, bytes: &[u8]) -> Result<(u8, &[u8]), Stop>
+    ensures { Gives (λ x. (x.0, x.1.now)) result (level_beside entry bytes.now) }
 {
     match entry {
         None => byte_from(0, 0, bytes),

@@ -14,7 +14,7 @@ mod pieces;
 mod stop;
 
 pub use fields::{
-    byte_from, four_bytes_from, heap_id, level_of, optional_place, place, two_bytes_from,
+    byte_from, four_bytes_from, heap_id, level_beside, optional_place, place, two_bytes_from,
 };
 pub use optional::{no_place, slot_of, slots};
 pub use packed::packed_places;

@@ -61,9 +61,9 @@ fn places_and_rows(rt: HostRuntime) {
     assert_eq!(rt; told(slot_of(false, &PLACE)), Ok((Some(at), 0)));
     assert_eq!(rt; told(slot_of(true, &PLACE)), Err(bad(6)));
     assert_eq!(rt; told(heap_id(&PLACE)), Ok((HeapId { block: 3, off: 7 }, 0)));
-    assert_eq!(rt; told(level_of(Some(at), &[4])), Ok((4, 0)));
-    assert_eq!(rt; told(level_of(None, &[4])), Err(bad(1)));
-    assert_eq!(rt; told(level_of(None, &[0])), Ok((0, 0)));
+    assert_eq!(rt; told(level_beside(Some(at), &[4])), Ok((4, 0)));
+    assert_eq!(rt; told(level_beside(None, &[4])), Err(bad(1)));
+    assert_eq!(rt; told(level_beside(None, &[0])), Ok((0, 0)));
 }
 
 #[test]

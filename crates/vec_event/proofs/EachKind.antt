@@ -9,7 +9,7 @@ use Rattle.vec_names.specs.Pointer.{tid_option_bytes}
 use Rattle.vec_event.specs.Spelling.{spelling, IsTyped, IsWritable, IsLevelOf}
 use Rattle.vec_event.specs.Reading.{version, byte, bits, lists, number_of_two, offsets, block, put, join, link, relist, drop_ids, mark, entry, hint, ivf_add, ivf_grow, ivf_drop, ivf_hint}
 use Rattle.byte_fields.proofs.FieldLaws.{IsField, then_law, next_law, viewed_law, wider}
-use Rattle.byte_fields.specs.Reading.{Reader, ◌⨟◌, and_then, place, optional_place, heap_id, two_bytes_from, level_of, four_bytes_from}
+use Rattle.byte_fields.specs.Reading.{Reader, ◌⨟◌, and_then, place, optional_place, heap_id, two_bytes_from, level_beside, four_bytes_from}
 use Rattle.byte_fields.proofs.EachField.{one_byte, level_field, FitsLevel, two_bytes_field, four_bytes_field, place_field, optional_place_field, heap_id_field}
 use Rattle.vec_event.proofs.EachField.{any_byte_field, version_field, block_field, number_field}
 use Rattle.vec_event.proofs.CountedFields.{bits_field, lists_field, offsets_field, Offsets-from, small_offsets, rising_offsets}
@@ -208,9 +208,9 @@ level_fits (Some to) level fits = (fits, tt)
 abbrev entry_of : Option Tid × ℕ → Event
 entry_of x = Entry x.0 x.1
 
-entry_law : IsField ⊥ (and_then optional_place level_of) (λ x. tid_option_bytes x.0 ++ one_byte x.1) (λ x. FitsLevel x.0 x.1) (6 + 1)
+entry_law : IsField ⊥ (and_then optional_place level_beside) (λ x. tid_option_bytes x.0 ++ one_byte x.1) (λ x. FitsLevel x.0 x.1) (6 + 1)
 entry_law =
-    next_law (λ v w. (v, w)) optional_place level_of optional_place_field (λ to _. level_field to) (λ x. tid_option_bytes x.0 ++ one_byte x.1) (λ x. FitsLevel x.0 x.1)
+    next_law (λ v w. (v, w)) optional_place level_beside optional_place_field (λ to _. level_field to) (λ x. tid_option_bytes x.0 ++ one_byte x.1) (λ x. FitsLevel x.0 x.1)
     (λ e fits. (e.0, e.1, refl, tt, fits, refl)) (λ v w _ q. (q, refl))
 
 entry_parts : Parts entry_law entry_of 7
@@ -221,7 +221,7 @@ entry_parts e p = absurd (omega (arith, p.0))
 pub entry_field : IsField ⊥ entry fields_bytes (OfKind 7) 200000
 unfolding entry spelling IsTyped IsWritable
 entry_field =
-    up_to (viewed_law entry_of (and_then optional_place level_of) entry_law fields_bytes (OfKind 7) entry_parts
+    up_to (viewed_law entry_of (and_then optional_place level_beside) entry_law fields_bytes (OfKind 7) entry_parts
     (λ x q. let l = level_fits x.0 x.1 q in ((refl, l.0, l.1), refl))) (lit≤ tt)
 
 -- ---- Hint

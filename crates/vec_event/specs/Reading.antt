@@ -2,7 +2,7 @@
 use Rattle.std.specs.Prelude.{ℕ, zero, suc, Bool, nat_lt, ◌==◌, if◌then◌else◌, List, [], ◌∷◌, Option}
 use Rattle.std.specs.Int.{w16, from_le_bytes}
 use Rattle.vec_names.specs.declared.tid.Tid.{Tid}
-use Rattle.byte_fields.specs.Reading.{Got, Reader, field, with_next, and_then, ◌⨟◌, depending, viewed, times, only_if, byte_from, two_bytes_from, four_bytes_from, place, optional_place, heap_id, level_of, packed_places}
+use Rattle.byte_fields.specs.Reading.{Got, Reader, field, with_next, and_then, ◌⨟◌, depending, viewed, times, only_if, byte_from, two_bytes_from, four_bytes_from, place, optional_place, heap_id, level_beside, packed_places}
 use Rattle.vec_event.specs.declared.event.Event.{Event}
 use Rattle.vec_event.specs.declared.event.Event.TheVariants as events
 
@@ -66,7 +66,7 @@ unfoldable pub mark : Reader Event
 mark = viewed (λ x. events.Mark x.0 x.1.0 x.1.1) (place ⨟ place ⨟ version)
 
 unfoldable pub entry : Reader Event
-entry = viewed (λ x. events.Entry x.0 x.1) (and_then optional_place level_of)
+entry = viewed (λ x. events.Entry x.0 x.1) (and_then optional_place level_beside)
 
 unfoldable pub hint : Reader Event
 hint = viewed events.Hint (four_bytes_from 0 32768)

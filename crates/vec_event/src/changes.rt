@@ -7,7 +7,7 @@ ghost use Rattle.vec_event.specs.Reading.{put, join, link, relist, drop_ids, mar
 use crate::counted::{bits, lists, offsets};
 use crate::event::Event;
 use byte_fields::{
-    Halt, Stop, byte_from, four_bytes_from, heap_id, level_of, optional_place, place,
+    Halt, Stop, byte_from, four_bytes_from, heap_id, level_beside, optional_place, place,
     two_bytes_from,
 };
 use std::alloc::Global;
@@ -111,7 +111,7 @@ pub fn entry(bytes: &[u8]) -> Result<(Event, &[u8]), Halt>
     ensures { GivesOr (λ x. (x.0, x.1.now)) result (entry bytes.now) }
 {
     let (to, rest) = optional_place(bytes)?;
-    let (level, rest) = level_of(to, rest)?;
+    let (level, rest) = level_beside(to, rest)?;
     Ok((Event::Entry { to, level }, rest))
 }
 

@@ -12,7 +12,7 @@ use Rattle.vec_names.specs.declared.params.Ops.TheVariants.{Hamming, Jaccard}
 use Rattle.vec_names.specs.declared.params.Params.{Params}
 use Rattle.vec_names.specs.Pointer.{heap_id_option_in}
 use Rattle.vec_names.specs.declared.heap_id.HeapId.{HeapId}
-use Rattle.byte_fields.specs.Reading.{Read, Got, Bad, Reader, ◌>>=◌, as_bad, field, with_next, and_then, ◌⨟◌, viewed, times, only_if, byte_from, two_bytes_from, four_bytes_from, place, optional_place, heap_id, level_of, packed_places, none_alone, no_place, slot_of}
+use Rattle.byte_fields.specs.Reading.{Read, Got, Bad, Reader, ◌>>=◌, as_bad, field, with_next, and_then, ◌⨟◌, viewed, times, only_if, byte_from, two_bytes_from, four_bytes_from, place, optional_place, heap_id, level_beside, packed_places, none_alone, no_place, slot_of}
 use Rattle.vec_tuples.specs.declared.meta.Meta.{Meta}
 use Rattle.vec_tuples.specs.declared.links.Links.{Links}
 use Rattle.vec_tuples.specs.declared.entry.EntryRow.{EntryRow}
@@ -77,7 +77,7 @@ hint_of Ivf = four_bytes_from 0 0
 unfoldable pub meta : Reader Meta
 meta =
     viewed (λ x. record { format = x.1.0; params = x.1.1.0; entry = x.1.1.1.0; level = x.1.1.1.1.0; hint = x.1.1.1.1.1.1 })
-    (four_bytes_from magic magic ⨟ two_bytes_from 1 2 ⨟ and_then params (λ p. and_then (entry_of p.kind) (λ e. level_of e ⨟ byte_from 0 0 ⨟ hint_of p.kind)))
+    (four_bytes_from magic magic ⨟ two_bytes_from 1 2 ⨟ and_then params (λ p. and_then (entry_of p.kind) (λ e. level_beside e ⨟ byte_from 0 0 ⨟ hint_of p.kind)))
 
 -- ---- bit values
 

@@ -10,7 +10,7 @@ ghost use Rattle.vec_tuples.specs.declared.meta.Meta.{Meta};
 use crate::fault::TupleFault;
 use crate::parameters::params;
 use byte_fields::{
-    Stop, byte_from, four_bytes_from, level_of, no_place, optional_place, two_bytes_from,
+    Stop, byte_from, four_bytes_from, level_beside, no_place, optional_place, two_bytes_from,
 };
 use vec_names::{Kind, Ops, Params, Tid};
 
@@ -75,7 +75,7 @@ fn meta_tuple(bytes: &[u8]) -> Result<(Meta, &[u8]), Stop>
     let (format, rest) = two_bytes_from(1, 2, rest)?;
     let (params, rest) = params(rest)?;
     let (entry, rest) = entry_of(params.kind, rest)?;
-    let (level, rest) = level_of(entry, rest)?;
+    let (level, rest) = level_beside(entry, rest)?;
     let (_, rest) = byte_from(0, 0, rest)?;
     let (hint, rest) = hint_of(params.kind, rest)?;
     let meta = Meta {
