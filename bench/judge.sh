@@ -5,7 +5,7 @@ set -eu
 . bench/program.sh
 work="${JUDGE_FOLDER:-$(mktemp -d)}"
 first="2 1"
-bench_program judge_bench usize vec_names bit_code vec_event vec_history vec_graph <<'RATTLE'
+bench_program judge_bench usize vec_names bit_code byte_fields vec_event vec_history vec_graph <<'RATTLE'
 //! Makes a legal history of so many inserts, each with some links, judges it some rounds, and prints how many acts it has.
 //! Words: the inserts, the rounds. Not read by the gate.
 #![tactic(auto)]

@@ -17,6 +17,7 @@ pub enum Cause {
 /// Where reading stopped.
 #[derive(Clone, Copy, Debug, PartialEq, Eq)]
 pub struct Stop {
+    /// What the field lacks.
     pub cause: Cause,
     /// The number of bytes from the field on that could not be read.
     pub left: usize,
@@ -51,6 +52,7 @@ impl Stop {
 pub enum Halt {
     /// No memory was found.
     Memory,
+    /// A field could not be read.
     Stopped(Stop),
 }
 
