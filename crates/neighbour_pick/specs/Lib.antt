@@ -1,3 +1,4 @@
 pub mod Order
 pub mod Selection
 pub mod Slots
+pub mod Sifting

@@ -5,11 +5,15 @@
 //! functions here are laws of those definitions, and do no work.
 #![tactic(auto)]
 
+mod fault;
 mod found;
 mod law;
+mod picking;
 
+pub use fault::PickFault;
 pub use found::{Found, SlotSeen};
 pub use law::{law_equal_members, law_selection, law_slots};
+pub use picking::pick;
 
 #[cfg(test)]
 mod tests;
