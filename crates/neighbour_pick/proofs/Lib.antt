@@ -1,3 +1,4 @@
 pub mod Selecting
 pub mod Choosing
 pub mod Sifted
+pub mod Standings

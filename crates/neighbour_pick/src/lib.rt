@@ -5,15 +5,18 @@
 //! functions here are laws of those definitions, and do no work.
 #![tactic(auto)]
 
+mod farther;
 mod fault;
 mod found;
 mod law;
 mod picking;
+mod slotting;
 
 pub use fault::PickFault;
 pub use found::{Found, SlotSeen};
 pub use law::{law_equal_members, law_selection, law_slots};
 pub use picking::pick;
+pub use slotting::slot_for;
 
 #[cfg(test)]
 mod tests;

@@ -3,12 +3,13 @@
 ghost use Rattle.std.specs.Prelude.{◌≡◌, ◌+◌, ◌^◌, ◌<◌, ◌≤◌, [], ◌++◌, map, take, length, OnOk, IfOk, vec_len};
 ghost use Rattle.std.specs.List.{All};
 ghost use Rattle.std.specs.List.Sorted.{IsSortedBy};
-ghost use Rattle.neighbour_pick.specs.Order.{candidate_of, is_nearer, is_greater};
+ghost use Rattle.neighbour_pick.specs.Order.{candidate_of, is_nearer};
 ghost use Rattle.neighbour_pick.specs.Selection.{is_far, picked};
 ghost use Rattle.neighbour_pick.specs.Sifting.{candidates_at, IsSifted, IsEnough};
 
+use crate::farther::is_farther;
 use crate::{Found, PickFault};
-use bit_dist::{Dist, distance};
+use bit_dist::distance;
 use std::alloc::{AllocError, Global};
 use vec_names::Ops;
 
@@ -90,13 +91,6 @@ fn is_far_from(ops: Ops, found: &[Found], chosen: &[u32], one: &Found) -> bool
         }
     }
     true
-}
-
-#[inline]
-fn is_farther(between: Dist, own: Dist) -> bool
-    ensures { result ≡ is_greater between own }
-{
-    between > own
 }
 
 // Those set aside follow, up to `count`.
