@@ -1,5 +1,5 @@
 -- Rivals in order, and the one that is left out.
-use Rattle.std.proofs.Common.{◌≡◌, ℕ, suc, ◌+◌, ◌-◌, ◌<◌, ◌≤◌, Bool, true, false, List, [], ◌∷◌, ◌++◌, map, drop, length, get_or, slice_get, Option, Some, None, is_none, refl, sym, ap, ◌∙◌, arith}
+use Rattle.std.proofs.Common.{◌≡◌, ℕ, suc, ◌+◌, ◌-◌, ◌<◌, ◌≤◌, false, List, [], ◌∷◌, ◌++◌, map, drop, length, get_or, slice_get, Option, Some, None, is_none, refl, sym, ap, ◌∙◌, arith}
 use Rattle.std.specs.Option.{option_map}
 use Rattle.std.proofs.lemmas.Option.{slice_get-get_or, slice_get-map, slice_get_past}
 use Rattle.std.proofs.lemmas.List.{drop_more, drop_all, length-map}
@@ -55,8 +55,8 @@ pub last_is_out : (ops : Ops) (rival : ℕ → Rival) (order : List ℕ) (far : 
     → option_map rival last ≡ left_out ops (map rival order)
 last_is_out ops rival order far i near last past none so_far is =
     let ended : None ≡ last_near ops [] (map rival order) None =
-        ap (λ (o : Option ℕ). option_map rival o) (sym none)
-        ∙ ap (λ (ks : List ℕ). last_near ops far (map rival ks) (option_map rival near)) (sym (drop_all i order past))
-        ∙ so_far in
+    ap (λ (o : Option ℕ). option_map rival o) (sym none)
+    ∙ ap (λ (ks : List ℕ). last_near ops far (map rival ks) (option_map rival near)) (sym (drop_all i order past))
+    ∙ so_far in
     ap (λ (o : Option ℕ). option_map rival o) is ∙ last_mapped rival order
     ∙ other_of_none (last_of (not_far (map rival order) (far_marks ops [] (map (λ r. r.is) (map rival order))))) (last_of (map rival order)) ended

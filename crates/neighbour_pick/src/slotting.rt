@@ -1,11 +1,11 @@
 //! The choice of the slot that a new neighbour takes.
 
-ghost use Rattle.std.specs.Prelude.{◌≡◌, ◌<◌, ◌≤◌, List, ◌∷◌, ◌+◌, map, length, slice_get, not, is_none, IsTrue, IfSome, IfNone};
+ghost use Rattle.std.specs.Prelude.{◌≡◌, ◌<◌, ◌≤◌, List, ◌∷◌, ◌+◌, map, length, not, is_none, IsTrue, IfSome, IfNone};
 ghost use Rattle.std.specs.List.{All, insert, list_any, position};
 ghost use Rattle.std.specs.Option.{option_map};
 ghost use Rattle.arrayvec.specs.ArrayVec.{array_vec_len};
 ghost use Rattle.bit_dist.specs.Ranking.{placed};
-ghost use Rattle.neighbour_pick.specs.Order.{candidate_of, is_greater};
+ghost use Rattle.neighbour_pick.specs.Order.{candidate_of};
 ghost use Rattle.neighbour_pick.specs.Selection.{is_far};
 ghost use Rattle.neighbour_pick.specs.Slots.{Rival, is_named, left_out, rivals, slot_left, slot_of};
 ghost use Rattle.neighbour_pick.specs.Standing.{rival_at, is_before, rivals_from, last_near};
@@ -23,9 +23,11 @@ type Numbers = ArrayVec<u8, 201>;
 /// The slot of a list of neighbours that an entrant takes, if any, as pgvector chooses it. It takes no memory.
 ///
 /// None where a slot names the entrant; else the lowest slot that is empty; else the lowest whose member is not live. Else
-/// members and entrant are gone through in the order of their distances to the list's owner, and one of them is left out:
-/// the last that is no farther from one that was kept before than from the owner, or where none is so, the last. The
-/// answer is that one's slot, and None where it is the entrant. The values of members that are not live are not looked at.
+/// one of members and entrant is left out, and the answer is its slot, or None where it is the entrant. They are gone
+/// through by distance and then by place, equal members in the order of their slots. One is far where its distance to each
+/// far one before it is greater than its own; the last that is not far is left out, or the last of all where all are far.
+///
+/// Distances are to the list's owner. The value and distance of a member that is not live are not looked at.
 pub fn slot_for(ops: Ops, slots: &[SlotSeen], entrant: &Found) -> Option<u16>
     requires some { 1 ≤ length slots.now }
     requires few { length slots.now ≤ 200 }
@@ -82,6 +84,7 @@ fn first_gone(slots: &[SlotSeen]) -> Option<usize>
     slots.iter().position(|slot| !slot.live)
 }
 
+// The slot of the one that is left out, if it has one.
 fn slot_of_left_out(ops: Ops, slots: &[SlotSeen], entrant: &Found) -> Option<u16>
     requires few { length slots.now ≤ 200 }
     requires one_length { All (λ slot. length slot.bits ≡ length entrant.now.bits) slots.now }
@@ -94,7 +97,8 @@ fn slot_of_left_out(ops: Ops, slots: &[SlotSeen], entrant: &Found) -> Option<u16
     }
 }
 
-// The numbers of the rivals in order. The slots are placed from the last to the first, so that of equal members the first stands first.
+// The numbers of the rivals in order. The slots are placed from the last to the first, so that of equal members that of
+// the first slot stands first.
 fn rank(slots: &[SlotSeen], entrant: &Found) -> Numbers
     requires { length slots.now ≤ 200 }
     ensures ranked { map (rival_at slots.now (candidate_of entrant.now)) result.items ≡ rivals slots.now (candidate_of entrant.now) }
@@ -177,11 +181,11 @@ fn weigh(
     ensures weighed { (rest : List Rival) → let rival = rival_at slots.now (candidate_of entrant.now) in
         last_near ops (map rival far.new.items) rest (option_map rival result) ≡ last_near ops (map rival far.old.items) (rival k ∷ rest) (option_map rival near) }
 {
-    if is_far_rival(ops, slots, entrant, far, k) {
-        far.push(k);
-        return near;
+    if !is_far_rival(ops, slots, entrant, far, k) {
+        return Some(k);
     }
-    Some(k)
+    far.push(k);
+    near
 }
 
 // Whether a rival is farther from each of these than from the owner.
@@ -191,8 +195,9 @@ fn is_far_rival(ops: Ops, slots: &[SlotSeen], entrant: &Found, others: &[u8], k:
         result ≡ is_far ops (map (λ r. r.is) (map rival others.now)) (rival k).is }
 {
     let (_at, dist) = standing(slots, entrant, k);
+    let own = value(slots, entrant, k);
     for other in others {
-        let between = distance(ops, value(slots, entrant, *other), value(slots, entrant, k));
+        let between = distance(ops, value(slots, entrant, *other), own);
         if !is_farther(between, dist) {
             return false;
         }

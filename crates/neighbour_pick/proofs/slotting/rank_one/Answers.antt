@@ -15,4 +15,4 @@ returns-clause-after c =
     ∙ subst (λ (ks : List ℕ). map rival (insert ks c.place_in-place.result c.args.k) ≡ placed is_before (rival c.args.k) (map rival ks)) c.deref.ensures.0 c.place_in-place.ensures.placed
     ∙ ap (placed is_before (rival c.args.k)) c.requires.before
     ∙ member_placed c.args.slots.now (candidate_of c.args.entrant.now) c.args.k c.index-slots-k.result c.requires.within c.index-slots-k.is
-      (ap (λ (s : SlotSeen). is_none s.at) c.index-slots-k.is ∙ ap not c.if-is_none.ensures)
+    (ap (λ (s : SlotSeen). is_none s.at) c.index-slots-k.is ∙ ap not c.if-is_none.ensures)
