@@ -8,13 +8,16 @@ use Rattle.neighbour_pick.specs.Order.{Candidate, is_nearer}
 use Rattle.neighbour_pick.specs.Selection.{far_marks}
 use Rattle.neighbour_pick.specs.Slots.{Rival, members_from, not_far, last_of, or_else}
 
+-- the entrant as a rival
 abbrev pub entering : Candidate → Rival
 entering entrant = record { slot = None; is = entrant }
 
+-- the member of a slot, and where it has none this other rival
 abbrev pub member_or : Rival → ℕ → SlotSeen → Option Tid → Rival
 member_or other k seen None = other
 member_or other k seen (Some at) = record { slot = Some k; is = record { at = at; dist = seen.dist; bits = seen.bits } }
 
+-- the same where there may be no such slot
 abbrev pub rival_in : Rival → ℕ → Option SlotSeen → Rival
 rival_in other k None = other
 rival_in other k (Some seen) = member_or other k seen seen.at
@@ -23,6 +26,7 @@ rival_in other k (Some seen) = member_or other k seen seen.at
 abbrev pub rival_at : List SlotSeen → Candidate → ℕ → Rival
 rival_at slots entrant k = rival_in (entering entrant) k (slice_get slots k)
 
+-- the order of rivals is that of elements
 abbrev pub is_before : Rival → Rival → Bool
 is_before a b = is_nearer a.is b.is
 
@@ -30,6 +34,6 @@ is_before a b = is_nearer a.is b.is
 abbrev pub rivals_from : List SlotSeen → Candidate → ℕ → List Rival
 rivals_from slots entrant k = ranked is_before (members_from k (drop k slots) ++ entering entrant ∷ [])
 
--- the last of these that is not far, where `others` are the far ones before them; where all are far, the one that was the last before
+-- The last of these that is not far, where `others` are the far ones before them. Where all are far, it is the last one before them.
 abbrev pub last_near : Ops → List Rival → List Rival → Option Rival → Option Rival
 last_near ops others rs before = or_else (last_of (not_far rs (far_marks ops (map (λ r. r.is) others) (map (λ r. r.is) rs)))) before

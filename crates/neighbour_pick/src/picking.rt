@@ -3,7 +3,7 @@
 ghost use Rattle.std.specs.Prelude.{◌≡◌, ◌+◌, ◌^◌, ◌<◌, ◌≤◌, [], ◌++◌, map, take, length, OnOk, IfOk, vec_len};
 ghost use Rattle.std.specs.List.{All};
 ghost use Rattle.std.specs.List.Sorted.{IsSortedBy};
-ghost use Rattle.neighbour_pick.specs.Order.{candidate_of, is_nearer};
+ghost use Rattle.neighbour_pick.specs.Order.{candidate_of, is_nearer, HaveOneLength};
 ghost use Rattle.neighbour_pick.specs.Selection.{is_far, picked};
 ghost use Rattle.neighbour_pick.specs.Sifting.{candidates_at, IsSifted, IsEnough};
 
@@ -14,14 +14,16 @@ use std::alloc::{AllocError, Global};
 use vec_names::Ops;
 
 /// The places in `found` of the neighbours picked, at most `count`, in the order of their choice: the HNSW paper's
-/// Algorithm 4, which pgvector follows too, with the pruned candidates kept and without extending the candidates.
+/// Algorithm 4, as pgvector follows it, with the pruned candidates kept and without extending the candidates.
 ///
 /// Each element is chosen, in order, where its distance to every one chosen before is greater than its own to what was
-/// looked for. While fewer than `count` are chosen, those set aside follow in order.
+/// looked for; else it is set aside. Once `count` are chosen it ends. Else those set aside follow in order, up to `count`.
+///
+/// The one error is `Memory`. It takes room for the answer, and while it runs for as many places as were found.
 pub fn pick(alloc: Global, ops: Ops, found: &[Found], count: u32) -> Result<Vec<u32>, PickFault>
     requires rising { IsSortedBy is_nearer (map candidate_of found.now) }
     requires few { length found.now < 2 ^ 32 }
-    requires one_length { All (λ one. All (λ other. length other.bits ≡ length one.bits) found.now) found.now }
+    requires one_length { HaveOneLength found.now }
     ensures { IfOk result (λ places. places.items ≡ picked ops (map candidate_of found.now) count) }
 {
     let count = count as usize;
@@ -41,7 +43,7 @@ fn sift(
     aside: &mut Vec<u32>,
 ) -> Result<(), PickFault>
     requires few { length found.now < 2 ^ 32 }
-    requires one_length { All (λ one. All (λ other. length other.bits ≡ length one.bits) found.now) found.now }
+    requires one_length { HaveOneLength found.now }
     requires none_chosen { chosen.old.items ≡ [] }
     requires none_aside { aside.old.items ≡ [] }
     ensures few_chosen { OnOk result (vec_len chosen.new ≤ count) }
@@ -65,7 +67,7 @@ fn sift_one(
     aside: &mut Vec<u32>,
 ) -> Result<(), PickFault>
     requires within { at < length found.now }
-    requires one_length { All (λ one. All (λ other. length other.bits ≡ length one.bits) found.now) found.now }
+    requires one_length { HaveOneLength found.now }
     requires before { IsSifted ops found.now at chosen.old.items aside.old.items }
     ensures after { OnOk result (IsSifted ops found.now (at + 1) chosen.new.items aside.new.items) }
     ensures one_more { OnOk result (vec_len chosen.new ≤ vec_len chosen.old + 1) }

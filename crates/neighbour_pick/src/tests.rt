@@ -1,7 +1,7 @@
 ghost use Rattle.std.specs.Prelude.{◌≡◌, map, length, IsTrue};
 ghost use Rattle.std.specs.List.{All};
 ghost use Rattle.std.specs.List.Sorted.{IsSortedBy};
-ghost use Rattle.neighbour_pick.specs.Order.{candidate_of, is_nearer};
+ghost use Rattle.neighbour_pick.specs.Order.{candidate_of, is_nearer, HaveOneLength};
 
 use super::*;
 use arrayvec::ArrayVec;
@@ -163,8 +163,8 @@ fn is_before(one: &Found, other: &Found) -> bool
         .is_lt()
 }
 
-fn are_as_long(found: &[Found]) -> bool
-    ensures { IsTrue result → All (λ one. All (λ other. length other.bits ≡ length one.bits) found.now) found.now }
+fn have_one_length(found: &[Found]) -> bool
+    ensures { IsTrue result → HaveOneLength found.now }
 {
     match found.first() {
         Some(first) => have_length(found, first.bits.count()),
@@ -182,7 +182,7 @@ fn have_length(found: &[Found], places: u32) -> bool
 fn neighbours_are_picked(rt: HostRuntime) -> Result<(), Fail> {
     for (ops, elements, counts) in PICKS {
         let found = all_found(rt.alloc(), elements)?;
-        assert!(rt; are_in_order(&found) && are_as_long(&found) && found.len() < 9);
+        assert!(rt; are_in_order(&found) && have_one_length(&found) && found.len() < 9);
         for (count, want) in counts {
             let picked = pick(rt.alloc(), ops, &found, *count)?;
             assert!(rt; picked.as_slice() == *want, "{count} of {elements:?}");
