@@ -57,56 +57,56 @@ module _ (ops : Ops) (found : List Found) (chosen : List ℕ) (i : ℕ) (x : Fou
 pub sifted_none : (ops : Ops) (found : List Found) → IsSifted ops found 0 [] []
 sifted_none ops found = record { far = refl; near = refl; inside = λ k d h. absurd (omega arith) }
 
-next : (at : ℕ) → at + 1 ≡ suc at
-next at = omega arith
+next : (place : ℕ) → place + 1 ≡ suc place
+next place = omega arith
 
-left_more : (ops : Ops) (found : List Found) (at : ℕ) (chosen : List ℕ) (x : Found) (b : Bool) → at < length found → x ≡ get_or found at x
+left_more : (ops : Ops) (found : List Found) (place : ℕ) (chosen : List ℕ) (x : Found) (b : Bool) → place < length found → x ≡ get_or found place x
     → b ≡ is_far ops (candidates_at found chosen) (candidate_of x)
-    → marks_left ops found at chosen ≡ b ∷ far_marks ops (with_far b (candidates_at found chosen) (candidate_of x)) (drop (at + 1) (map candidate_of found))
-left_more ops found at chosen x b h is far_is =
-    let inside : at < length (map candidate_of found) = omega (arith, length-map found candidate_of, h) in
-    let one : get_or (map candidate_of found) at (candidate_of x) ≡ candidate_of x = get_or-map candidate_of found at x (candidate_of x) h ∙ ap candidate_of (sym is) in
-    ap (far_marks ops (candidates_at found chosen)) (drop_more (map candidate_of found) at (candidate_of x) inside)
-    ∙ ap (λ (c : Candidate). far_marks ops (candidates_at found chosen) (c ∷ drop (at + 1) (map candidate_of found))) one
-    ∙ ap (λ (f : Bool). f ∷ far_marks ops (with_far f (candidates_at found chosen) (candidate_of x)) (drop (at + 1) (map candidate_of found))) (sym far_is)
+    → marks_left ops found place chosen ≡ b ∷ far_marks ops (with_far b (candidates_at found chosen) (candidate_of x)) (drop (place + 1) (map candidate_of found))
+left_more ops found place chosen x b h is far_is =
+    let inside : place < length (map candidate_of found) = omega (arith, length-map found candidate_of, h) in
+    let one : get_or (map candidate_of found) place (candidate_of x) ≡ candidate_of x = get_or-map candidate_of found place x (candidate_of x) h ∙ ap candidate_of (sym is) in
+    ap (far_marks ops (candidates_at found chosen)) (drop_more (map candidate_of found) place (candidate_of x) inside)
+    ∙ ap (λ (c : Candidate). far_marks ops (candidates_at found chosen) (c ∷ drop (place + 1) (map candidate_of found))) one
+    ∙ ap (λ (f : Bool). f ∷ far_marks ops (with_far f (candidates_at found chosen) (candidate_of x)) (drop (place + 1) (map candidate_of found))) (sym far_is)
 
-module _ (ops : Ops) (found : List Found) (at : ℕ) (chosen aside : List ℕ) (x : Found) (h : at < length found) (is : x ≡ get_or found at x) (s : IsSifted ops found at chosen aside) where
-  left_far : true ≡ is_far ops (candidates_at found chosen) (candidate_of x) → marks_left ops found at chosen ≡ true ∷ marks_left ops found (at + 1) (chosen ++ at ∷ [])
+module _ (ops : Ops) (found : List Found) (place : ℕ) (chosen aside : List ℕ) (x : Found) (h : place < length found) (is : x ≡ get_or found place x) (s : IsSifted ops found place chosen aside) where
+  left_far : true ≡ is_far ops (candidates_at found chosen) (candidate_of x) → marks_left ops found place chosen ≡ true ∷ marks_left ops found (place + 1) (chosen ++ place ∷ [])
   left_far far_is =
-      left_more ops found at chosen x true h is far_is
-      ∙ ap (λ (cs : List Candidate). true ∷ far_marks ops cs (drop (at + 1) (map candidate_of found))) (sym (at_last found chosen at x (read_at found at x h is)))
+      left_more ops found place chosen x true h is far_is
+      ∙ ap (λ (cs : List Candidate). true ∷ far_marks ops cs (drop (place + 1) (map candidate_of found))) (sym (at_last found chosen place x (read_at found place x h is)))
 
-  left_near : false ≡ is_far ops (candidates_at found chosen) (candidate_of x) → marks_left ops found at chosen ≡ false ∷ marks_left ops found (at + 1) chosen
-  left_near far_is = left_more ops found at chosen x false h is far_is
+  left_near : false ≡ is_far ops (candidates_at found chosen) (candidate_of x) → marks_left ops found place chosen ≡ false ∷ marks_left ops found (place + 1) chosen
+  left_near far_is = left_more ops found place chosen x false h is far_is
 
-  pub sifted_far : true ≡ is_far ops (candidates_at found chosen) (candidate_of x) → IsSifted ops found (at + 1) (chosen ++ at ∷ []) aside
+  pub sifted_far : true ≡ is_far ops (candidates_at found chosen) (candidate_of x) → IsSifted ops found (place + 1) (chosen ++ place ∷ []) aside
   sifted_far far_is =
-      let marks : List Bool = marks_left ops found (at + 1) (chosen ++ at ∷ []) in
+      let marks : List Bool = marks_left ops found (place + 1) (chosen ++ place ∷ []) in
       record {
         far =
-            append_assoc chosen (at ∷ []) (set_places (at + 1) marks)
-            ∙ ap (λ (n : ℕ). chosen ++ at ∷ set_places n marks) (next at)
-            ∙ ap (λ (ms : List Bool). chosen ++ set_places at ms) (sym (left_far far_is))
+            append_assoc chosen (place ∷ []) (set_places (place + 1) marks)
+            ∙ ap (λ (n : ℕ). chosen ++ place ∷ set_places n marks) (next place)
+            ∙ ap (λ (ms : List Bool). chosen ++ set_places place ms) (sym (left_far far_is))
             ∙ s.far;
         near =
-            ap (λ (n : ℕ). aside ++ clear_places n marks) (next at)
-            ∙ ap (λ (ms : List Bool). aside ++ clear_places at ms) (sym (left_far far_is))
+            ap (λ (n : ℕ). aside ++ clear_places n marks) (next place)
+            ∙ ap (λ (ms : List Bool). aside ++ clear_places place ms) (sym (left_far far_is))
             ∙ s.near;
-        inside = All-push (λ (k : ℕ). k < length found) chosen at s.inside h;
+        inside = All-push (λ (k : ℕ). k < length found) chosen place s.inside h;
       }
 
-  pub sifted_near : false ≡ is_far ops (candidates_at found chosen) (candidate_of x) → IsSifted ops found (at + 1) chosen (aside ++ at ∷ [])
+  pub sifted_near : false ≡ is_far ops (candidates_at found chosen) (candidate_of x) → IsSifted ops found (place + 1) chosen (aside ++ place ∷ [])
   sifted_near far_is =
-      let marks : List Bool = marks_left ops found (at + 1) chosen in
+      let marks : List Bool = marks_left ops found (place + 1) chosen in
       record {
         far =
-            ap (λ (n : ℕ). chosen ++ set_places n marks) (next at)
-            ∙ ap (λ (ms : List Bool). chosen ++ set_places at ms) (sym (left_near far_is))
+            ap (λ (n : ℕ). chosen ++ set_places n marks) (next place)
+            ∙ ap (λ (ms : List Bool). chosen ++ set_places place ms) (sym (left_near far_is))
             ∙ s.far;
         near =
-            append_assoc aside (at ∷ []) (clear_places (at + 1) marks)
-            ∙ ap (λ (n : ℕ). aside ++ at ∷ clear_places n marks) (next at)
-            ∙ ap (λ (ms : List Bool). aside ++ clear_places at ms) (sym (left_near far_is))
+            append_assoc aside (place ∷ []) (clear_places (place + 1) marks)
+            ∙ ap (λ (n : ℕ). aside ++ place ∷ clear_places n marks) (next place)
+            ∙ ap (λ (ms : List Bool). aside ++ clear_places place ms) (sym (left_near far_is))
             ∙ s.near;
         inside = s.inside;
       }
@@ -114,22 +114,22 @@ module _ (ops : Ops) (found : List Found) (at : ℕ) (chosen aside : List ℕ) (
 -- ---- enough are sifted
 
 -- where all were looked at, nothing is left
-pub enough_at_end : (ops : Ops) (found : List Found) (at count : ℕ) (chosen aside : List ℕ) → length found ≤ at → IsSifted ops found at chosen aside
+pub enough_at_end : (ops : Ops) (found : List Found) (place count : ℕ) (chosen aside : List ℕ) → length found ≤ place → IsSifted ops found place chosen aside
     → IsEnough ops found count chosen aside
-enough_at_end ops found at count chosen aside h s =
-    let past : length (map candidate_of found) ≤ at = omega (arith, length-map found candidate_of, h) in
-    let none : marks_left ops found at chosen ≡ [] = ap (far_marks ops (candidates_at found chosen)) (drop_all at (map candidate_of found) past) in
+enough_at_end ops found place count chosen aside h s =
+    let past : length (map candidate_of found) ≤ place = omega (arith, length-map found candidate_of, h) in
+    let none : marks_left ops found place chosen ≡ [] = ap (far_marks ops (candidates_at found chosen)) (drop_all place (map candidate_of found) past) in
     let far : chosen ≡ set_places 0 (far_marks ops [] (map candidate_of found)) =
-    sym (append-nil chosen) ∙ ap (λ (ms : List Bool). chosen ++ set_places at ms) (sym none) ∙ s.far in
+    sym (append-nil chosen) ∙ ap (λ (ms : List Bool). chosen ++ set_places place ms) (sym none) ∙ s.far in
     let near : aside ≡ clear_places 0 (far_marks ops [] (map candidate_of found)) =
-    sym (append-nil aside) ∙ ap (λ (ms : List Bool). aside ++ clear_places at ms) (sym none) ∙ s.near in
+    sym (append-nil aside) ∙ ap (λ (ms : List Bool). aside ++ clear_places place ms) (sym none) ∙ s.near in
     ap (λ (ks : List ℕ). take count (ks ++ aside)) far ∙ ap (λ (ks : List ℕ). take count (set_places 0 (far_marks ops [] (map candidate_of found)) ++ ks)) near
 
 -- where so many are chosen, what is left and set aside counts for nothing
-pub enough_chosen : (ops : Ops) (found : List Found) (at count : ℕ) (chosen aside : List ℕ) → length chosen ≡ count → IsSifted ops found at chosen aside
+pub enough_chosen : (ops : Ops) (found : List Found) (place count : ℕ) (chosen aside : List ℕ) → length chosen ≡ count → IsSifted ops found place chosen aside
     → IsEnough ops found count chosen aside
-enough_chosen ops found at count chosen aside h s =
-    let rest : List ℕ = set_places at (marks_left ops found at chosen) in
+enough_chosen ops found place count chosen aside h s =
+    let rest : List ℕ = set_places place (marks_left ops found place chosen) in
     let near : List ℕ = clear_places 0 (far_marks ops [] (map candidate_of found)) in
     take_at chosen aside count h ∙ sym (take_at chosen (rest ++ near) count h) ∙ ap (take count) (sym (append_assoc chosen rest near))
     ∙ ap (λ (ks : List ℕ). take count (ks ++ near)) s.far

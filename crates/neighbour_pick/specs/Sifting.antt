@@ -12,12 +12,12 @@ candidates_at found places = map candidate_of (filter_map (slice_get found) plac
 
 -- the marks of those from a place on, after these were chosen
 abbrev pub marks_left : Ops → List Found → ℕ → List ℕ → List Bool
-marks_left ops found at chosen = far_marks ops (candidates_at found chosen) (drop at (map candidate_of found))
+marks_left ops found place chosen = far_marks ops (candidates_at found chosen) (drop place (map candidate_of found))
 
 -- Those before a place are sifted: what is chosen and set aside so far, each with what is left, makes up all.
-pub record IsSifted (ops : Ops) (found : List Found) (at : ℕ) (chosen aside : List ℕ) : Type 0 where
-  pub far : chosen ++ set_places at (marks_left ops found at chosen) ≡ set_places 0 (far_marks ops [] (map candidate_of found))
-  pub near : aside ++ clear_places at (marks_left ops found at chosen) ≡ clear_places 0 (far_marks ops [] (map candidate_of found))
+pub record IsSifted (ops : Ops) (found : List Found) (place : ℕ) (chosen aside : List ℕ) : Type 0 where
+  pub far : chosen ++ set_places place (marks_left ops found place chosen) ≡ set_places 0 (far_marks ops [] (map candidate_of found))
+  pub near : aside ++ clear_places place (marks_left ops found place chosen) ≡ clear_places 0 (far_marks ops [] (map candidate_of found))
   pub inside : All (λ k. k < length found) chosen
 
 -- Enough are sifted: the first `count` of the chosen ones and then those set aside are the ones picked.

@@ -49,11 +49,11 @@ fn sift(
     ensures few_chosen { OnOk result (vec_len chosen.new ≤ count) }
     ensures enough { OnOk result (IsEnough ops found.now count chosen.new.items aside.new.items) }
 {
-    for at in 0..found.len() {
+    for place in 0..found.len() {
         if chosen.len() == count {
             return Ok(());
         }
-        sift_one(ops, found, at as u32, chosen, aside)?;
+        sift_one(ops, found, place as u32, chosen, aside)?;
     }
     Ok(())
 }
@@ -62,20 +62,20 @@ fn sift(
 fn sift_one(
     ops: Ops,
     found: &[Found],
-    at: u32,
+    place: u32,
     chosen: &mut Vec<u32>,
     aside: &mut Vec<u32>,
 ) -> Result<(), PickFault>
-    requires within { at < length found.now }
+    requires within { place < length found.now }
     requires one_length { HaveOneLength found.now }
-    requires before { IsSifted ops found.now at chosen.old.items aside.old.items }
-    ensures after { OnOk result (IsSifted ops found.now (at + 1) chosen.new.items aside.new.items) }
+    requires before { IsSifted ops found.now place chosen.old.items aside.old.items }
+    ensures after { OnOk result (IsSifted ops found.now (place + 1) chosen.new.items aside.new.items) }
     ensures one_more { OnOk result (vec_len chosen.new ≤ vec_len chosen.old + 1) }
 {
-    if is_far_from(ops, found, chosen, &found[at as usize]) {
-        chosen.push(at)?;
+    if is_far_from(ops, found, chosen, &found[place as usize]) {
+        chosen.push(place)?;
     } else {
-        aside.push(at)?;
+        aside.push(place)?;
     }
     Ok(())
 }
