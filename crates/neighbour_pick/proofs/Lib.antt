@@ -1,2 +1,4 @@
 pub mod Selecting
 pub mod Choosing
+pub mod Sifted
+pub mod Standings

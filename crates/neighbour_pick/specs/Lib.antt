@@ -1,3 +1,5 @@
 pub mod Order
 pub mod Selection
 pub mod Slots
+pub mod Sifting
+pub mod Standing

@@ -1,5 +1,6 @@
 -- The order in which elements are looked at and chosen.
-use Rattle.std.specs.Prelude.{Bool, List}
+use Rattle.std.specs.Prelude.{◌≡◌, Bool, List, length}
+use Rattle.std.specs.List.{All}
 use Rattle.std.specs.declared.cmp.Ordering.{Ordering}
 use Rattle.std.specs.Ordering.{ordering_then, is_lt, is_gt}
 use Rattle.vec_names.specs.declared.tid.Tid.{Tid}
@@ -26,3 +27,7 @@ is_nearer a b = is_lt (candidate_cmp a b)
 
 abbrev pub is_greater : Dist → Dist → Bool
 is_greater a b = is_gt (dist_cmp a b)
+
+-- the values of these are of one length
+abbrev pub HaveOneLength : List Found → Type 0
+HaveOneLength found = All (λ one. All (λ other. length other.bits ≡ length one.bits) found) found

@@ -28,7 +28,7 @@ pub struct SlotSeen {
     pub at: Option<Tid>,
     /// Whether the member is live.
     pub live: bool,
-    /// The member's distance to the list's owner.
+    /// The member's distance to the list's owner. Of a member that is not live this and the value say nothing.
     pub dist: Dist,
     pub bits: Bits,
 }
