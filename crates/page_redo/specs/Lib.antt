@@ -1,3 +1,4 @@
 pub mod Items
 pub mod Roles
 pub mod Redo
+pub mod Standing

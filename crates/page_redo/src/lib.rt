@@ -10,15 +10,18 @@ mod changes;
 mod events;
 mod fault;
 mod graph;
+mod graph_fault;
 mod heads;
 mod items;
 mod kinds;
 mod law;
 mod lists;
+mod places;
 mod put;
 
 pub use events::redo;
 pub use fault::RedoFault;
+pub use graph_fault::GraphFault;
 pub use law::{law_elsewhere, law_others};
 
 #[cfg(test)]
