@@ -5,6 +5,7 @@
 //! this one call, so that all of them make the same pages. Nothing here takes memory.
 #![tactic(auto)]
 
+mod blocks;
 mod both;
 mod changes;
 mod events;
@@ -16,13 +17,18 @@ mod items;
 mod kinds;
 mod law;
 mod lists;
+mod naming;
+mod nodes;
 mod places;
 mod put;
+mod rules;
+mod standing;
 
 pub use events::redo;
 pub use fault::RedoFault;
 pub use graph_fault::GraphFault;
-pub use law::{law_elsewhere, law_others};
+pub use standing::graph_of;
+pub use law::{law_elsewhere, law_others, law_standing};
 
 #[cfg(test)]
 mod tests;

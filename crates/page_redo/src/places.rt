@@ -21,6 +21,19 @@ pub fn page_at(pages: &[Page], block: u32) -> Option<&Page>
     pages.get(block as usize)
 }
 
+/// The place on a block of the item that so many items stand before.
+pub fn place_on(block: u32, before: u16) -> Tid
+    requires low { block ≤ 32767 }
+    requires few { before < 65535 }
+    ensures block { result.block ≡ block }
+    ensures off { result.off ≡ before + 1 }
+{
+    Tid {
+        block,
+        off: before + 1,
+    }
+}
+
 /// The item at a place, if there is one.
 pub fn item_in(pages: &[Page], at: Tid) -> Option<&[u8]>
     ensures { option_copied result ≡ item_in pages.now at }
