@@ -1,9 +1,9 @@
 -- A map that is filled with the nodes of the pages, place by place.
-use Rattle.std.proofs.Common.{◌≡◌, ◌≢◌, ◌⊎◌, inl, inr, ℕ, zero, suc, ◌+◌, ◌<◌, ◌≤◌, Bool, true, false, cond, ◌&&◌, ◌||◌, ltb, leb, eqb, List, length, Option, Some, None, refl, sym, ap, subst, ◌∙◌, arith}
+use Rattle.std.proofs.Common.{◌≡◌, inl, inr, ℕ, zero, suc, ◌+◌, ◌<◌, ◌≤◌, Bool, true, false, cond, List, length, Option, Some, None, refl, sym, ap, subst, ◌∙◌, arith}
 use Rattle.std.specs.Prelude.{slice_get}
 use Rattle.std.specs.Option.{option_map, option_and_then}
-use Rattle.std.specs.FinMap.{FinMap, get, insert}
-use Rattle.std.proofs.lemmas.Bool.{cases_eq, cases_lt, ltb-true, ltb-false, leb-true, leb-false, eqb-true, eqb-false, lt-ltb, le-ltb, le-leb, lt-leb, eq-eqb, ne_eqb, and_from}
+use Rattle.std.specs.FinMap.{FinMap, get}
+use Rattle.std.proofs.lemmas.Bool.{cases_eq, cases_lt}
 use Rattle.std.proofs.lemmas.Bool.Decides.{nat_tests}
 use Rattle.std.proofs.lemmas.Option.{slice_get_past}
 use Rattle.vec_names.specs.declared.tid.Tid.{Tid}
@@ -49,7 +49,7 @@ filled_more p pages block i nodes next e f filled at =
     elim (is_place at next) as (λ b. is_place at next ≡ b → get after at ≡ if_so (is_passed block (i + 1) at) (node_in p pages at)) [
       | true ↦ λ same.
           let here : get after next ≡ if_so (is_passed block (i + 1) next) (node_in p pages next) =
-              now_there nodes next (node_in p pages next) (is_passed block i next) (filled next) ∙ ap (λ b. if_so b (node_in p pages next)) (sym (passed_next next block i e f)) in
+          now_there nodes next (node_in p pages next) (is_passed block i next) (filled next) ∙ ap (λ b. if_so b (node_in p pages next)) (sym (passed_next next block i e f)) in
           subst (λ (t : Tid). get after t ≡ if_so (is_passed block (i + 1) t) (node_in p pages t)) (same_if_place at next same) here
       | false ↦ λ apart. other_stays nodes next at (node_in p pages next) apart ∙ filled at ∙ ap (λ b. if_so b (node_in p pages at)) (sym (passed_other at next block i e f apart))
     ] refl

@@ -12,3 +12,4 @@ pub mod SlotTests
 pub mod PagePlaces
 pub mod FillingLaws
 pub mod SameGraph
+pub mod Broken

@@ -1,5 +1,5 @@
 -- The places of a page, one offset after the other, and a block without a page.
-use Rattle.std.proofs.Common.{◌≡◌, ◌⊎◌, inl, inr, ℕ, zero, suc, ◌+◌, ◌<◌, ◌≤◌, Bool, true, false, List, length, Option, Some, None, refl, sym, ap, subst, ◌∙◌, arith}
+use Rattle.std.proofs.Common.{◌≡◌, inl, inr, ℕ, zero, suc, ◌+◌, ◌≤◌, List, length, Some, None, sym, ap, subst, ◌∙◌, arith}
 use Rattle.std.specs.Prelude.{slice_get}
 use Rattle.std.specs.Option.{option_and_then}
 use Rattle.std.proofs.lemmas.Bool.{cases_eq}
@@ -8,8 +8,7 @@ use Rattle.vec_names.specs.declared.tid.Tid.{Tid}
 use Rattle.vec_names.specs.declared.params.Params.{Params}
 use Rattle.vec_names.specs.Places.{same_tid}
 use Rattle.page_bytes.specs.Content.{Content, item_at}
-use Rattle.page_redo.specs.Items.{is_graph_page}
-use Rattle.page_redo.specs.Standing.{item_in, is_node_item, IsNodePage}
+use Rattle.page_redo.specs.Standing.{item_in, IsNodePage}
 
 -- an item stands at an offset from 1 to the number of items
 off_within : (items : List (List ℕ)) (off : ℕ) (x : List ℕ) → item_at items off ≡ Some x → off ≤ length items

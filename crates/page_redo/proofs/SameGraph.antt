@@ -1,5 +1,5 @@
 -- Pages stand for one graph at most.
-use Rattle.std.proofs.Common.{◌≡◌, List, Option, Some, sym, ap, ◌∙◌}
+use Rattle.std.proofs.Common.{◌≡◌, List, sym, ap, ◌∙◌}
 use Rattle.std.proofs.lemmas.Option.{same_Some}
 use Rattle.std.specs.FinMap.{same_map}
 use Rattle.vec_names.specs.Order.{tid_cmp_total, tid_cmp_exact}

@@ -1,6 +1,6 @@
 -- Which pages stand for which graph. Block 0 has the meta tuple, the other blocks have the elements and their neighbour
 -- tuples. The numbers of the pages are no part of it.
-use Rattle.std.specs.Prelude.{◌≡◌, ℕ, zero, suc, ◌<◌, ◌≤◌, ◌&&◌, ◌||◌, ◌==◌, nat_le, nat_lt, Bool, true, false, List, length, flat_map, slice_get, Option, Some, None, Result, Ok, Err}
+use Rattle.std.specs.Prelude.{◌≡◌, ℕ, zero, suc, ◌<◌, ◌&&◌, ◌||◌, ◌==◌, nat_le, nat_lt, Bool, true, false, List, length, flat_map, slice_get, Option, Some, None, Result, Ok, Err}
 use Rattle.std.specs.Bool.{beq}
 use Rattle.std.specs.List.{list_all, count_by}
 use Rattle.std.specs.Option.{option_map, option_and_then, option_to_list}
@@ -132,7 +132,15 @@ pub record IsFirstBroken (pages : List Content) (block : ℕ) : Type 0 where
 
 -- an element and its list
 abbrev pub node_with : Element → Links → Node
-node_with e l = record { level = e.level; version = e.version; deleted = e.deleted; bits = e.bits; ids = e.ids.items; list_at = e.list_at; slots = l.tids }
+node_with e l = record {
+  level = e.level;
+  version = e.version;
+  deleted = e.deleted;
+  bits = e.bits;
+  ids = e.ids.items;
+  list_at = e.list_at;
+  slots = l.tids;
+}
 
 abbrev pub node_in : Params → List Content → Tid → Option Node
 node_in p pages at = option_and_then (λ e. option_map (node_with e) (links_in p pages e.list_at)) (element_in p pages at)

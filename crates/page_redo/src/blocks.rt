@@ -20,7 +20,8 @@ pub fn first_broken(pages: &[Page], params: &Params, named: &Mapped<bool>) -> Op
     requires named { Tells named.now (pointers params.now pages.now) }
     ensures { MatchOption result
         ((block : ℕ) → 1 ≤ block → IsNodePage params.now pages.now block)
-        (λ broken. (1 ≤ broken) × (¬ IsNodePage params.now pages.now broken) × ((lower : ℕ) → 1 ≤ lower → lower < broken → IsNodePage params.now pages.now lower)) }
+        (λ broken. (1 ≤ broken) × (¬ IsNodePage params.now pages.now broken)
+        × ((lower : ℕ) → 1 ≤ lower → lower < broken → IsNodePage params.now pages.now lower)) }
 {
     for block in 1..pages.len() as u32 {
         if !is_node_page(pages, params, named, block) {
@@ -42,7 +43,13 @@ fn is_node_page(pages: &[Page], params: &Params, named: &Mapped<bool>, block: u3
     }
 }
 
-fn are_node_items(pages: &[Page], params: &Params, named: &Mapped<bool>, block: u32, page: &Page) -> bool
+fn are_node_items(
+    pages: &[Page],
+    params: &Params,
+    named: &Mapped<bool>,
+    block: u32,
+    page: &Page,
+) -> bool
     requires low { block ≤ 32767 }
     requires in_range { IsInRange params.now }
     requires named { Tells named.now (pointers params.now pages.now) }

@@ -27,8 +27,10 @@ mod standing;
 pub use events::redo;
 pub use fault::RedoFault;
 pub use graph_fault::GraphFault;
-pub use standing::graph_of;
 pub use law::{law_elsewhere, law_others, law_standing};
+pub use standing::graph_of;
 
+#[cfg(test)]
+mod graph_tests;
 #[cfg(test)]
 mod tests;

@@ -23,7 +23,11 @@ pub fn is_named_once(named: &Mapped<bool>, at: Tid) -> bool
 }
 
 /// The places that the list pointers of all pages name.
-pub fn named_places(alloc: Global, pages: &[Page], params: &Params) -> Result<Mapped<bool>, AllocError>
+pub fn named_places(
+    alloc: Global,
+    pages: &[Page],
+    params: &Params,
+) -> Result<Mapped<bool>, AllocError>
     requires { IsInRange params.now }
     ensures { IfOk result (λ named. Tells named (pointers params.now pages.now)) }
 {
@@ -44,9 +48,15 @@ fn add_page(named: &mut Mapped<bool>, params: &Params, page: &Page) -> Result<()
     Ok(())
 }
 
-fn add_item_at(named: &mut Mapped<bool>, params: &Params, page: &Page, off: u16) -> Result<(), AllocError>
+fn add_item_at(
+    named: &mut Mapped<bool>,
+    params: &Params,
+    page: &Page,
+    off: u16,
+) -> Result<(), AllocError>
     requires { IsInRange params.now }
-    ensures { OnOk result ((places : List Place) (item : List ℕ) → item_at page.now.items off ≡ Some item → Tells named.old places → Tells named.new (places ++ pointer_of params.now item)) }
+    ensures { OnOk result ((places : List Place) (item : List ℕ) → item_at page.now.items off ≡ Some item
+        → Tells named.old places → Tells named.new (places ++ pointer_of params.now item)) }
 {
     match page.item(off) {
         Some(item) => add_item(named, params, item),

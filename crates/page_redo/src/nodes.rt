@@ -24,7 +24,14 @@ pub fn nodes_of(alloc: Global, pages: &[Page], params: &Params) -> Result<Mapped
 {
     let mut nodes = Mapped::new(alloc);
     for block in 0..pages.len() {
-        add_nodes(alloc, pages, params, block as u32, &pages[block], &mut nodes)?;
+        add_nodes(
+            alloc,
+            pages,
+            params,
+            block as u32,
+            &pages[block],
+            &mut nodes,
+        )?;
     }
     Ok(nodes)
 }
@@ -66,7 +73,12 @@ fn add_node(
 }
 
 /// The node of the element at a place, if one stands there and its list is there.
-fn node_in(alloc: Global, pages: &[Page], params: &Params, at: Tid) -> Result<Option<Node>, AllocError>
+fn node_in(
+    alloc: Global,
+    pages: &[Page],
+    params: &Params,
+    at: Tid,
+) -> Result<Option<Node>, AllocError>
     requires { IsInRange params.now }
     ensures { IfOk result (λ node. node ≡ node_in params.now pages.now at) }
 {
@@ -94,7 +106,12 @@ fn node_with(alloc: Global, element: Element, links: Links) -> Result<Node, Allo
     })
 }
 
-fn element_in(alloc: Global, pages: &[Page], params: &Params, at: Tid) -> Result<Option<Element>, AllocError>
+fn element_in(
+    alloc: Global,
+    pages: &[Page],
+    params: &Params,
+    at: Tid,
+) -> Result<Option<Element>, AllocError>
     requires { IsInRange params.now }
     ensures { IfOk result (λ e. e ≡ element_in params.now pages.now at) }
 {
@@ -116,7 +133,12 @@ fn element_of(alloc: Global, item: &[u8], params: &Params) -> Result<Option<Elem
     }
 }
 
-fn links_in(alloc: Global, pages: &[Page], params: &Params, at: Tid) -> Result<Option<Links>, AllocError>
+fn links_in(
+    alloc: Global,
+    pages: &[Page],
+    params: &Params,
+    at: Tid,
+) -> Result<Option<Links>, AllocError>
     requires { IsInRange params.now }
     ensures { IfOk result (λ l. l ≡ links_in params.now pages.now at) }
 {

@@ -95,5 +95,9 @@ fn of_graph(meta: Meta) -> Option<Meta>
     ensures told { result ≡ of_graph meta }
     ensures same { IfSome result (λ m. m ≡ meta) }
 {
-    if is_graph(meta.params.kind) { Some(meta) } else { None }
+    if is_graph(meta.params.kind) {
+        Some(meta)
+    } else {
+        None
+    }
 }

@@ -1,16 +1,16 @@
 //! The rules of the blocks of an index, each decided.
 
-ghost use Rattle.std.specs.Prelude.{◌≡◌, ◌↔◌, ℕ, ◌<◌, ◌≤◌, ◌^◌, ◌&&◌, ◌||◌, ◌==◌, IsTrue, IsSome, IfSome, IfNone, length, slice_get, Option, Some};
+ghost use Rattle.std.specs.Prelude.{◌≡◌, ◌&&◌, ◌==◌, length};
 ghost use Rattle.std.specs.Bool.{beq};
 ghost use Rattle.std.specs.List.{list_all};
-ghost use Rattle.vec_names.specs.declared.tid.Tid.{Tid as Place};
 ghost use Rattle.vec_names.specs.Params.{IsInRange};
 ghost use Rattle.vec_tuples.specs.declared.links.Links.{Links};
 ghost use Rattle.vec_tuples.specs.Spelling.{links_bytes};
 ghost use Rattle.vec_graph.specs.Graph.{slots_of_level};
 ghost use Rattle.vec_tuples.specs.Reading.{links};
 ghost use Rattle.page_redo.specs.Items.{in_whole};
-ghost use Rattle.page_redo.specs.Standing.{item_in, head_in, links_in, is_of_level, is_entry, is_root, is_list_of, is_element, is_slot_below, is_list, pointers, is_node_item, IsNodePage};
+ghost use Rattle.page_redo.specs.Standing.{head_in, links_in, is_of_level, is_entry, is_root};
+ghost use Rattle.page_redo.specs.Standing.{is_list_of, is_element, is_slot_below, is_list, pointers, is_node_item};
 ghost use Rattle.page_redo.specs.Naming.{Tells};
 
 use crate::items::links_head_of;
@@ -73,13 +73,29 @@ fn is_list_of(pages: &[Page], params: &Params, head: &ElementHead) -> bool
 {
     match links_head_in(pages, params, head.list_at) {
         Some((deleted, version, count)) => {
-            fits(params.m, head.level, head.version, head.deleted, deleted, version, count)
+            fits(
+                params.m,
+                head.level,
+                head.version,
+                head.deleted,
+                deleted,
+                version,
+                count,
+            )
         }
         None => false,
     }
 }
 
-fn fits(m: u16, level: u8, version: u8, deleted: bool, is_deleted: bool, found: u8, count: u16) -> bool
+fn fits(
+    m: u16,
+    level: u8,
+    version: u8,
+    deleted: bool,
+    is_deleted: bool,
+    found: u8,
+    count: u16,
+) -> bool
     ensures { result ≡ (count == slots_of_level m level && (found == version && beq is_deleted deleted)) }
 {
     if u64::from(count) != slots_of_level(m, level) {

@@ -1,4 +1,4 @@
-use Rattle.std.proofs.Common.{ap, subst, sym, ◌∙◌, arith}
+use Rattle.std.proofs.Common.{ap, ◌∙◌, arith}
 use Rattle.std.specs.FinMap.{get}
 use Rattle.page_redo.proofs.FillingLaws.{filled_more, filled_block}
 use Rattle.page_redo.proofs.nodes.add_nodes.Goals as goal

@@ -1,4 +1,4 @@
-use Rattle.std.proofs.Common.{◌≡◌, ℕ, ◌<◌, ◌&&◌, ◌+◌, Bool, true, drop, sym, ap, ◌∙◌, arith}
+use Rattle.std.proofs.Common.{◌&&◌, ◌+◌, Bool, drop, sym, ap, ◌∙◌, arith}
 use Rattle.std.specs.List.{list_all}
 use Rattle.std.proofs.lemmas.List.{drop_all}
 use Rattle.page_redo.specs.Standing.{is_slot_below}
