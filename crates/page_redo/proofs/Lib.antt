@@ -6,3 +6,10 @@ pub mod Elsewhere
 pub mod Others
 pub mod Pairs
 pub mod Putting
+pub mod PlaceTests
+pub mod NamingLaws
+pub mod SlotTests
+pub mod PagePlaces
+pub mod FillingLaws
+pub mod SameGraph
+pub mod Broken

@@ -1,5 +1,5 @@
 -- Two roles of an event on one page.
-use Rattle.std.proofs.Common.{◌≡◌, ℕ, ◌+◌, ◌≤◌, Bool, true, false, not, ◌&&◌, eqb, List, [], ◌∷◌, ◌++◌, length, replicate, is_some, Option, Some, None, Result, Ok, Err, refl, sym, ap, ◌∙◌, subst, arith}
+use Rattle.std.proofs.Common.{◌≡◌, ℕ, Bool, true, false, ◌&&◌, List, ◌∷◌, length, replicate, is_some, Option, Some, None, Result, Ok, Err, refl, sym, ap, ◌∙◌, arith}
 use Rattle.std.specs.Prelude.{nat_lt}
 use Rattle.std.proofs.lemmas.Bool.{false_from_ne_true, ltb-true}
 use Rattle.std.specs.Option.{option_map, option_and_then}
@@ -15,7 +15,7 @@ use Rattle.byte_fields.specs.Reading.{field, byte_from}
 use Rattle.vec_tuples.specs.Reading.{element, links}
 use Rattle.vec_graph.specs.Effect.{next_version}
 use Rattle.page_redo.specs.Items.{in_whole, with_item, with_head, head_changed, links_changed, element_at, links_at, is_graph, is_graph_page}
-use Rattle.page_redo.specs.Roles.{when, if_so, on_graph, put, put_over, put_element, put_links, is_node, is_old_element, are_old_links, new_element, is_current, marked, emptied}
+use Rattle.page_redo.specs.Roles.{if_so, on_graph, put, put_element, put_links, is_node, is_old_element, are_old_links, new_element, is_current, marked, emptied}
 use Rattle.page_redo.specs.declared.fault.RedoFault.{RedoFault}
 use Rattle.page_redo.specs.Redo.{Becomes}
 use Rattle.page_redo.proofs.Others.{so}

@@ -1,3 +1,6 @@
 pub mod Items
 pub mod Roles
 pub mod Redo
+pub mod Standing
+pub mod Naming
+pub mod Filling

@@ -25,12 +25,13 @@ pub fn head_at(page: &Page, params: &Params, off: u16) -> Option<ElementHead>
     ensures spelled { (e : Element) → element_at params.now page.now off ≡ Some e → IsElement params.now e × (item_at page.now.items off ≡ Some (element_bytes e)) }
 {
     match page.item(off) {
-        Some(item) => head_in(item, params),
+        Some(item) => head_of(item, params),
         None => None,
     }
 }
 
-fn head_in(item: &[u8], params: &Params) -> Option<ElementHead>
+/// The head of the element that an item is as a whole.
+pub fn head_of(item: &[u8], params: &Params) -> Option<ElementHead>
     requires { IsInRange params.now }
     ensures told { result ≡ option_map head_of_element (in_whole (element params.now item.now)) }
     ensures spelled { (e : Element) → in_whole (element params.now item.now) ≡ Some e → IsElement params.now e × (item.now ≡ element_bytes e) }
@@ -48,12 +49,13 @@ pub fn links_head_at(page: &Page, params: &Params, off: u16) -> Option<(bool, u8
     ensures spelled { (l : Links) → links_at params.now page.now off ≡ Some l → IsLinks params.now l × (item_at page.now.items off ≡ Some (links_bytes l)) }
 {
     match page.item(off) {
-        Some(item) => links_in(item, params),
+        Some(item) => links_head_of(item, params),
         None => None,
     }
 }
 
-fn links_in(item: &[u8], params: &Params) -> Option<(bool, u8, u16)>
+/// The head of the neighbour tuple that an item is as a whole.
+pub fn links_head_of(item: &[u8], params: &Params) -> Option<(bool, u8, u16)>
     requires { IsInRange params.now }
     ensures told { result ≡ option_map head_of_links (in_whole (links params.now item.now)) }
     ensures spelled { (l : Links) → in_whole (links params.now item.now) ≡ Some l → IsLinks params.now l × (item.now ≡ links_bytes l) }

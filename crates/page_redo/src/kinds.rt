@@ -31,9 +31,13 @@ pub fn is_on_meta(page: &Page) -> bool
 pub fn is_on_graph(page: &Page, params: &Params) -> bool
     ensures { result ≡ (is_graph params.now.kind && is_graph_page page.now.kind) }
 {
-    if !is_graph(params.kind) {
-        return false;
-    }
+    is_graph(params.kind) && holds_nodes(page)
+}
+
+/// Whether the page holds nodes.
+pub fn holds_nodes(page: &Page) -> bool
+    ensures { result ≡ is_graph_page page.now.kind }
+{
     match page.kind() {
         PageKind::Meta => false,
         PageKind::Hnsw => true,

@@ -5,21 +5,32 @@
 //! this one call, so that all of them make the same pages. Nothing here takes memory.
 #![tactic(auto)]
 
+mod blocks;
 mod both;
 mod changes;
 mod events;
 mod fault;
 mod graph;
+mod graph_fault;
 mod heads;
 mod items;
 mod kinds;
 mod law;
 mod lists;
+mod naming;
+mod nodes;
+mod places;
 mod put;
+mod rules;
+mod standing;
 
 pub use events::redo;
 pub use fault::RedoFault;
-pub use law::{law_elsewhere, law_others};
+pub use graph_fault::GraphFault;
+pub use law::{law_elsewhere, law_others, law_standing};
+pub use standing::graph_of;
 
+#[cfg(test)]
+mod graph_tests;
 #[cfg(test)]
 mod tests;

@@ -9,7 +9,7 @@ use vec_event::{Event, Gate};
 use vec_names::{HeapId, Kind, Listed, Ops, Params, Tid};
 
 /// A graph of four places with m 2.
-const GRAPH: Params = Params {
+pub const GRAPH: Params = Params {
     kind: Kind::Hnsw,
     ops: Ops::Hamming,
     bits: 4,
@@ -29,7 +29,7 @@ const LISTS: Params = Params {
 };
 
 /// The element at 1/1 of the row 1/1 with the value 0000, its list at 1/2.
-const ELEMENT: [u8; 81] = [
+pub const ELEMENT: [u8; 81] = [
     1, 0, 0, 1, 0, 0, 1, 0, 1, 0, 255, 255, 255, 255, 0, 0, 255, 255, 255, 255, 0, 0, 255, 255,
     255, 255, 0, 0, 255, 255, 255, 255, 0, 0, 255, 255, 255, 255, 0, 0, 255, 255, 255, 255, 0, 0,
     255, 255, 255, 255, 0, 0, 255, 255, 255, 255, 0, 0, 255, 255, 255, 255, 0, 0, 0, 0, 1, 0, 2, 0,
@@ -37,13 +37,13 @@ const ELEMENT: [u8; 81] = [
 ];
 
 /// Its four slots.
-const SLOTS: [u8; 28] = [
+pub const SLOTS: [u8; 28] = [
     2, 1, 4, 0, 255, 255, 255, 255, 0, 0, 255, 255, 255, 255, 0, 0, 255, 255, 255, 255, 0, 0, 255,
     255, 255, 255, 0, 0,
 ];
 
 /// The meta tuple of that graph without an entry point, with the hint 1.
-const META: [u8; 32] = [
+pub const META: [u8; 32] = [
     0x56, 0x54, 0x49, 0x42, 2, 0, 1, 1, 4, 0, 0, 0, 2, 0, 4, 0, 0, 0, 0, 0, 255, 255, 255, 255, 0,
     0, 0, 0, 1, 0, 0, 0,
 ];
@@ -56,14 +56,14 @@ const CENTRE: [u8; 21] = [
     2, 0, 0, 0, 2, 0, 0, 0, 0, 0, 0, 0, 0x24, 0, 0, 0, 4, 0, 0, 0, 0x30,
 ];
 
-fn place(off: u16) -> Tid {
+pub fn place(off: u16) -> Tid {
     Tid {
         block: 1,
         off: off.max(1),
     }
 }
 
-fn row(off: u16) -> HeapId {
+pub fn row(off: u16) -> HeapId {
     HeapId {
         block: 1,
         off: off.max(1),
@@ -80,7 +80,7 @@ fn slots(alloc: Global, count: usize) -> Result<Listed<Option<Tid>>, Fail> {
 }
 
 /// The event of a new node of level 0, with its list at the next offset.
-fn put(alloc: Global, off: u16, version: u8, bits: Bits, count: usize) -> Result<Event, Fail> {
+pub fn put(alloc: Global, off: u16, version: u8, bits: Bits, count: usize) -> Result<Event, Fail> {
     Ok(Event::Put {
         at: place(off),
         list_at: place(off.min(9) + 1),
@@ -93,7 +93,7 @@ fn put(alloc: Global, off: u16, version: u8, bits: Bits, count: usize) -> Result
 }
 
 /// Whether the event fits the page of a block; then its number is given to the page, and else the page stays.
-fn fits(event: &Event, params: Params, wrap: u8, block: u32, page: &mut Page) -> bool {
+pub fn fits(event: &Event, params: Params, wrap: u8, block: u32, page: &mut Page) -> bool {
     if !params.check() {
         return false;
     }

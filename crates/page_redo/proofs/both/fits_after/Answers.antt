@@ -1,4 +1,4 @@
-use Rattle.std.proofs.Common.{◌≡◌, ◌+◌, ◌-◌, ◌∙◌, Bool, Some, None, ℕ, List, length, is_some, sym, ap}
+use Rattle.std.proofs.Common.{◌+◌, ◌-◌, ◌∙◌, ℕ, List, length, sym, ap}
 use Rattle.page_bytes.specs.Content.{item_at, round8, free_of}
 use Rattle.page_redo.specs.Roles.{may_put}
 use Rattle.page_redo.proofs.Putting.{may_after, made_there, made_behind}

@@ -1,4 +1,4 @@
-use Rattle.std.proofs.Common.{◌≡◌, ◌∙◌, ℕ, Bool, true, Some, None, replicate, sym, ap, arith, refl}
+use Rattle.std.proofs.Common.{◌∙◌, ℕ, Bool, true, Some, None, replicate, sym, ap, arith, refl}
 use Rattle.std.specs.Option.{option_and_then}
 use Rattle.vec_tuples.specs.Spelling.{head_of_links, links_bytes, links_with}
 use Rattle.page_bytes.specs.Content.{Content}

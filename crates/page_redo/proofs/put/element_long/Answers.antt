@@ -1,4 +1,4 @@
-use Rattle.std.proofs.Common.{◌≡◌, sym, arith}
+use Rattle.std.proofs.Common.{arith}
 use Rattle.vec_tuples.specs.Spelling.{element_with}
 use Rattle.page_redo.proofs.Lengths.{length-element_bytes}
 use Rattle.page_redo.proofs.put.element_long.Goals as goal

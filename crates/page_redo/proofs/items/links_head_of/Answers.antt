@@ -2,7 +2,7 @@ use Rattle.std.proofs.Common.{arith}
 use Rattle.vec_tuples.specs.Spelling.{head_of_links}
 use Rattle.vec_tuples.proofs.LinksLaws.{links_field}
 use Rattle.page_redo.proofs.ItemLaws.{told, whole_spelled}
-use Rattle.page_redo.proofs.items.links_in.Goals as goal
+use Rattle.page_redo.proofs.items.links_head_of.Goals as goal
 
 pub returns-clause-told : goal.returns-clause-told
 returns-clause-told c =
