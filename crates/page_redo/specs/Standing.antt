@@ -12,7 +12,8 @@ use Rattle.vec_tuples.specs.declared.element.Element.{Element}
 use Rattle.vec_tuples.specs.declared.element.ElementHead.{ElementHead}
 use Rattle.vec_tuples.specs.declared.links.Links.{Links}
 use Rattle.vec_tuples.specs.Spelling.{head_of_element}
-use Rattle.vec_tuples.specs.Reading.{Reader, element, links}
+use Rattle.byte_fields.specs.Reading.{Reader}
+use Rattle.vec_tuples.specs.Reading.{element, links}
 use Rattle.vec_graph.specs.declared.node.Node.{Node}
 use Rattle.vec_graph.specs.declared.graph.Graph.{Graph}
 use Rattle.vec_graph.specs.Graph.{node_at, slots_of_level}
