@@ -1,8 +1,11 @@
-//! Redo of one page: what an event does to the page that it touches.
+//! Redo of one page: what an event does to the page that it touches; and the graph that the pages of an index stand for.
 //!
 //! An event has a role at each place that it names. A role changes one tuple of a page, adds one, drops some or links
 //! the page to another, and it needs a page that allows this. Live changes, recovery and standbys change pages through
-//! this one call, so that all of them make the same pages. Nothing here takes memory.
+//! this one call, so that all of them make the same pages. It takes no memory.
+//!
+//! `graph_of` reads a graph from pages, or names the first block that breaks a rule of the format; `specs/Standing.antt` says
+//! which pages stand for which graph. It takes memory for the graph.
 #![tactic(auto)]
 
 mod blocks;
