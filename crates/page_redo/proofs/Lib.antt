@@ -20,3 +20,7 @@ pub mod KindsApart
 pub mod StandingLaws
 pub mod OneItem
 pub mod ElementEffect
+pub mod HeadEffect
+pub mod ListEffect
+pub mod SlotEffect
+pub mod MetaEffect

@@ -1,14 +1,35 @@
 //! What redo of an event that changes one tuple makes of the graph that the pages stand for: laws, and no work.
 
-ghost use Rattle.std.specs.Prelude.{◌≡◌, ◌≤◌, ◌<◌, ℕ, List, Option, Some};
+ghost use Rattle.std.specs.Prelude.{◌≡◌, ◌≤◌, ◌<◌, ℕ, List, Option, Some, slice_get};
 ghost use Rattle.vec_names.specs.declared.tid.Tid.{Tid as Place};
 ghost use Rattle.vec_names.specs.declared.heap_id.HeapId.{HeapId};
-ghost use Rattle.vec_event.specs.declared.event.Event.TheVariants.{Join};
+ghost use Rattle.vec_event.specs.declared.event.Event.TheVariants.{Join, Link, Relist, Drop};
 ghost use Rattle.page_bytes.specs.Content.{Content};
+ghost use Rattle.vec_graph.specs.declared.node.Node.{Node};
 ghost use Rattle.vec_graph.specs.declared.graph.Graph.{Graph};
+ghost use Rattle.vec_graph.specs.Graph.{node_at};
 ghost use Rattle.page_redo.specs.Effects.{RedoIsEffect};
 
-/// A law, and no work. Redo of a further id is the event's effect on the graph.
+/// A law, and no work. Redo of a slot that comes to name a place is that event's effect, where the neighbour tuple is the
+/// node's, and the place is on one of the graph's blocks.
+pub fn law_link()
+    ensures { (pages : List Content) (g : Graph) (at list_at to : Place) (version slot : ℕ) (n : Node) → node_at g at ≡ Some n → n.list_at ≡ list_at → to.block < g.blocks
+        → RedoIsEffect pages g (Link at list_at version slot to) }
+{}
+
+/// A law, and no work. Redo of all slots of a node is that event's effect, where the neighbour tuple is the node's, and
+/// each place is on one of the graph's blocks.
+pub fn law_relist()
+    ensures { (pages : List Content) (g : Graph) (at list_at : Place) (version : ℕ) (lists : List (Option Place)) (n : Node) → node_at g at ≡ Some n → n.list_at ≡ list_at
+        → ((slot : ℕ) (to : Place) → slice_get lists slot ≡ Some (Some to) → to.block < g.blocks) → RedoIsEffect pages g (Relist at list_at version lists) }
+{}
+
+/// A law, and no work. Redo of a further id is that event's effect on the graph.
 pub fn law_join()
     ensures { (pages : List Content) (g : Graph) (at : Place) (version : ℕ) (id : HeapId) → RedoIsEffect pages g (Join at version id) }
+{}
+
+/// A law, and no work. Redo of ids that go is that event's effect on the graph.
+pub fn law_drop()
+    ensures { (pages : List Content) (g : Graph) (at : Place) (version gone : ℕ) → RedoIsEffect pages g (Drop at version gone) }
 {}
