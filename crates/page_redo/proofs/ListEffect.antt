@@ -47,9 +47,8 @@ or_second false b is = is
 
 names_itself : (at : Tid) → 1 ≤ times_in at (at ∷ [])
 names_itself at =
-    let one : cond (is_place at at) 1 0 ≡ 1 = ap (λ b. cond b 1 0) (place_itself at) in
-    let sum : times_in at (at ∷ []) ≡ 0 + cond (is_place at at) 1 0 = refl in
-    omega (arith, one, sum)
+    let one : times_in at (at ∷ []) ≡ 0 + 1 = ap (λ b. 0 + cond b 1 0) (place_itself at) in
+    omega (arith, one)
 
 alike_lists : (p : Params) (h : ElementHead) (l k : Links) → k.version ≡ l.version → k.deleted ≡ l.deleted → length k.tids ≡ length l.tids → is_list_of p h (Some k) ≡ is_list_of p h (Some l)
 alike_lists p h l k version deleted count = rw (version, deleted, count) refl

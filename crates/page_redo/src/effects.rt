@@ -3,12 +3,23 @@
 ghost use Rattle.std.specs.Prelude.{◌≡◌, ◌≤◌, ◌<◌, ℕ, List, Option, Some, slice_get};
 ghost use Rattle.vec_names.specs.declared.tid.Tid.{Tid as Place};
 ghost use Rattle.vec_names.specs.declared.heap_id.HeapId.{HeapId};
-ghost use Rattle.vec_event.specs.declared.event.Event.TheVariants.{Join, Link, Relist, Drop};
+ghost use Rattle.vec_event.specs.declared.event.Event.TheVariants.{Join, Link, Relist, Drop, Entry, Hint};
 ghost use Rattle.page_bytes.specs.Content.{Content};
 ghost use Rattle.vec_graph.specs.declared.node.Node.{Node};
 ghost use Rattle.vec_graph.specs.declared.graph.Graph.{Graph};
-ghost use Rattle.vec_graph.specs.Graph.{node_at};
+ghost use Rattle.vec_graph.specs.Graph.{node_at, HasLevel};
 ghost use Rattle.page_redo.specs.Effects.{RedoIsEffect};
+
+/// A law, and no work. Redo of another hint is that event's effect on the graph, where the graph has so many blocks.
+pub fn law_hint()
+    ensures { (pages : List Content) (g : Graph) (hint : ℕ) → hint ≤ g.blocks → RedoIsEffect pages g (Hint hint) }
+{}
+
+/// A law, and no work. Redo of another entry point, or of none, is that event's effect on the graph, where a node of the
+/// stated level stands there.
+pub fn law_entry()
+    ensures { (pages : List Content) (g : Graph) (to : Option Place) (level : ℕ) → ((at : Place) → to ≡ Some at → HasLevel g at level) → RedoIsEffect pages g (Entry to level) }
+{}
 
 /// A law, and no work. Redo of a slot that comes to name a place is that event's effect, where the neighbour tuple is the
 /// node's, and the place is on one of the graph's blocks.
