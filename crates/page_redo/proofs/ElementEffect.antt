@@ -1,14 +1,10 @@
 -- An element whose rows are changed.
-use Rattle.std.proofs.Common.{◌≡◌, ℕ, ◌≤◌, ◌&&◌, ◌||◌, ◌==◌, Bool, true, false, not, List, [], ◌∷◌, ◌++◌, length, Option, Some, None, refl, sym, ap, ap₂, subst, ◌∙◌}
-use Rattle.std.specs.Prelude.{slice_get, slice_set, flat_map, All}
+use Rattle.std.proofs.Common.{◌≡◌, ℕ, ◌≤◌, ◌||◌, ◌==◌, Bool, true, false, List, [], ◌∷◌, Option, Some, None, refl, sym, ap, ap₂, subst, ◌∙◌}
 use Rattle.std.specs.Option.{option_map, option_and_then, option_to_list}
-use Rattle.std.specs.FinMap.{FinMap, get, insert}
-use Rattle.std.proofs.lemmas.Bool.{and_parts}
+use Rattle.std.specs.FinMap.{get, insert}
 use Rattle.vec_names.specs.declared.tid.Tid.{Tid}
-use Rattle.vec_names.specs.declared.heap_id.HeapId.{HeapId}
 use Rattle.vec_names.specs.declared.params.Params.{Params}
-use Rattle.vec_names.specs.Order.{tid_cmp}
-use Rattle.page_bytes.specs.Content.{Content, IsPage, item_at}
+use Rattle.page_bytes.specs.Content.{Content}
 use Rattle.vec_tuples.specs.declared.element.Element.{Element}
 use Rattle.vec_tuples.specs.declared.element.ElementHead.{ElementHead}
 use Rattle.vec_tuples.specs.declared.links.Links.{Links}
@@ -19,7 +15,7 @@ use Rattle.vec_graph.specs.declared.graph.Graph.{Graph}
 use Rattle.vec_graph.specs.Graph.{node_at}
 use Rattle.vec_graph.specs.Effect.{with_node, changed_from, changed}
 use Rattle.page_redo.specs.Items.{in_whole}
-use Rattle.page_redo.specs.Standing.{item_in, element_in, head_in, links_in, is_of_level, is_list_of, is_element, pointer_of, pointers, is_list, is_node_item, IsNodePage, node_with as made_of, node_in, Stands}
+use Rattle.page_redo.specs.Standing.{item_in, element_in, head_in, links_in, is_of_level, is_list_of, is_element, pointers, is_list, is_node_item, IsNodePage, node_with as made_of, node_in, Stands}
 use Rattle.page_redo.proofs.PageSets.{IsChangedAt, by_place, get_here, get_apart, read_now, read_was, read_apart, read_alike}
 use Rattle.page_redo.proofs.OneItem.{stands_with, same_list_of, same_element, same_list}
 use Rattle.page_redo.proofs.StandingLaws.{node_pages}

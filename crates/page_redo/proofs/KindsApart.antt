@@ -1,9 +1,7 @@
 -- The item of one kind of tuple reads as no other.
-use Rattle.std.proofs.Common.{◌≡◌, ℕ, Bool, true, false, List, ◌∷◌, ◌++◌, length, Option, None, refl, ap, ◌∙◌, arith}
-use Rattle.std.specs.Prelude.{nat_lt, flat_map}
-use Rattle.std.specs.Int.{w16, w32, to_le_bytes}
+use Rattle.std.proofs.Common.{◌≡◌, ℕ, Bool, true, false, List, ◌∷◌, length, None, refl, arith}
+use Rattle.std.specs.Prelude.{nat_lt}
 use Rattle.std.proofs.lemmas.Bool.{false_from_ne_true, ltb-true}
-use Rattle.vec_names.specs.Pointer.{tid_option_bytes}
 use Rattle.vec_names.specs.declared.params.Params.{Params}
 use Rattle.vec_tuples.specs.declared.meta.Meta.{Meta}
 use Rattle.vec_tuples.specs.declared.links.Links.{Links}

@@ -1,9 +1,8 @@
 -- A neighbour tuple whose slots are changed.
-use Rattle.std.proofs.Common.{◌≡◌, ℕ, ◌+◌, ◌≤◌, ◌&&◌, ◌||◌, ◌==◌, Bool, true, false, cond, List, [], ◌∷◌, length, Option, Some, None, refl, sym, ap, ap₂, subst, ◌∙◌, arith}
-use Rattle.std.specs.Prelude.{slice_get, flat_map}
+use Rattle.std.proofs.Common.{◌≡◌, ℕ, ◌+◌, ◌≤◌, ◌||◌, ◌==◌, Bool, true, false, cond, List, [], ◌∷◌, length, Option, Some, None, refl, sym, ap, ap₂, subst, ◌∙◌, arith}
 use Rattle.std.specs.List.{list_all}
 use Rattle.std.specs.Option.{option_map, option_and_then, option_to_list}
-use Rattle.std.specs.FinMap.{FinMap, get, insert}
+use Rattle.std.specs.FinMap.{get, insert}
 use Rattle.std.proofs.lemmas.Bool.{and_parts, and_from, eqb-true}
 use Rattle.byte_fields.proofs.EachField.{some_is}
 use Rattle.vec_names.specs.declared.tid.Tid.{Tid}
@@ -16,10 +15,10 @@ use Rattle.vec_tuples.specs.Spelling.{head_of_element}
 use Rattle.vec_tuples.specs.Reading.{element, links}
 use Rattle.vec_graph.specs.declared.node.Node.{Node}
 use Rattle.vec_graph.specs.declared.graph.Graph.{Graph}
-use Rattle.vec_graph.specs.Graph.{node_at, slots_of_level}
+use Rattle.vec_graph.specs.Graph.{node_at}
 use Rattle.vec_graph.specs.Effect.{with_node, changed_from, changed}
 use Rattle.page_redo.specs.Items.{in_whole}
-use Rattle.page_redo.specs.Standing.{item_in, element_in, head_in, links_in, is_of_level, is_list_of, is_element, pointer_of, pointers, is_place, times_in, is_slot_below, is_list, is_node_item, IsNodePage, node_with as made_of, node_in, Stands}
+use Rattle.page_redo.specs.Standing.{item_in, element_in, head_in, links_in, is_of_level, is_list_of, is_element, pointer_of, pointers, times_in, is_slot_below, is_list, is_node_item, IsNodePage, node_with as made_of, node_in, Stands}
 use Rattle.page_redo.proofs.Given.{then_is, map_is}
 use Rattle.page_redo.proofs.PlaceTests.{place_itself}
 use Rattle.page_redo.proofs.PageSets.{IsChangedAt, by_place, get_here, get_apart, read_now, read_was, read_apart, read_alike}

@@ -1,5 +1,5 @@
 -- Redo of an event that changes the meta tuple of a graph.
-use Rattle.std.proofs.Common.{◌≡◌, ℕ, ◌-◌, ◌<◌, ◌≤◌, ◌&&◌, ◌||◌, ◌==◌, Bool, true, false, List, [], ◌∷◌, length, Option, Some, None, refl, sym, ap, ap₂, subst, ◌∙◌, arith, lit<, lit≤}
+use Rattle.std.proofs.Common.{◌≡◌, ℕ, ◌-◌, ◌<◌, ◌≤◌, ◌&&◌, ◌||◌, ◌==◌, true, List, length, Option, Some, None, refl, sym, ap, ap₂, subst, ◌∙◌, arith, lit<, lit≤}
 use Rattle.std.specs.Prelude.{slice_get, slice_set, nat_le, All}
 use Rattle.std.specs.Option.{option_map, option_and_then, option_to_list}
 use Rattle.std.proofs.lemmas.Bool.{and_parts, and_from, eqb-true, eq-eqb, leb-true, le-leb}
@@ -9,21 +9,21 @@ use Rattle.vec_names.specs.declared.params.Params.{Params}
 use Rattle.page_bytes.specs.Content.{Content, IsPage, item_at}
 use Rattle.vec_tuples.specs.declared.meta.Meta.{Meta}
 use Rattle.vec_tuples.specs.declared.element.Element.{Element}
-use Rattle.vec_tuples.specs.Spelling.{IsMeta, IsLevelOf, meta_bytes, head_of_element, element_bytes, IsElement}
+use Rattle.vec_tuples.specs.Spelling.{IsMeta, IsLevelOf, meta_bytes, head_of_element}
 use Rattle.vec_tuples.specs.Reading.{meta, element, links}
 use Rattle.vec_tuples.proofs.MetaLaws.{meta_field}
 use Rattle.vec_tuples.proofs.ElementLaws.{element_field}
 use Rattle.vec_graph.specs.declared.node.Node.{Node}
 use Rattle.vec_graph.specs.declared.graph.Graph.{Graph}
-use Rattle.vec_graph.specs.Graph.{node_at, HasLevel}
+use Rattle.vec_graph.specs.Graph.{HasLevel}
 use Rattle.page_redo.specs.Items.{in_whole, meta_at, with_item, meta_changed, is_graph, is_meta_page}
-use Rattle.page_redo.specs.Roles.{Role, on_meta, entered, hinted, is_level}
+use Rattle.page_redo.specs.Roles.{on_meta, entered, hinted, is_level}
 use Rattle.page_redo.specs.Redo.{at_one, numbered}
-use Rattle.page_redo.specs.Standing.{item_in, element_in, head_in, links_in, root_on, root, of_graph, is_of_level, is_entry, is_root, is_element, pointers, is_list, is_node_item, node_with as made_of, node_in, Stands}
+use Rattle.page_redo.specs.Standing.{item_in, element_in, head_in, links_in, root_on, root, of_graph, is_of_level, is_entry, is_element, pointers, is_list, is_node_item, node_with as made_of, node_in, Stands}
 use Rattle.byte_fields.proofs.EachField.{some_is}
 use Rattle.page_redo.proofs.Given.{then_is, map_is, if_is, when_is, item_bytes}
 use Rattle.page_redo.proofs.ItemLaws.{whole_spelled, whole_read}
-use Rattle.page_redo.proofs.MetaChanges.{entry_of_graph, level_of_entry, hint_of_graph}
+use Rattle.page_redo.proofs.MetaChanges.{entry_of_graph, hint_of_graph}
 use Rattle.page_redo.proofs.KindsApart.{meta_is_no_element, meta_is_no_list}
 use Rattle.page_redo.proofs.Putting.{set_here, with_item_here}
 use Rattle.page_redo.proofs.PageSets.{IsChangedAt, changed_at, node_page, read_alike}

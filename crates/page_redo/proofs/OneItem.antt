@@ -1,23 +1,20 @@
 -- Pages of which one item of a node page is changed stand for a graph again.
-use Rattle.std.proofs.Common.{◌≡◌, ℕ, ◌≤◌, ◌&&◌, ◌||◌, ◌==◌, Bool, true, false, List, [], ◌∷◌, length, Option, Some, None, refl, sym, ap, subst, ◌∙◌}
-use Rattle.std.specs.Prelude.{slice_get, nat_le, flat_map}
-use Rattle.std.specs.List.{list_all}
-use Rattle.std.specs.Option.{option_map, option_and_then, option_to_list}
-use Rattle.std.specs.FinMap.{FinMap, get, insert}
+use Rattle.std.proofs.Common.{◌≡◌, ℕ, true, List, length, Option, Some, None, refl, sym, ap, ◌∙◌}
+use Rattle.std.specs.Prelude.{slice_get}
+use Rattle.std.specs.Option.{option_and_then}
+use Rattle.std.specs.FinMap.{FinMap, get}
 use Rattle.vec_names.specs.declared.tid.Tid.{Tid}
 use Rattle.vec_names.specs.declared.params.Params.{Params}
 use Rattle.vec_names.specs.Order.{tid_cmp}
 use Rattle.page_bytes.specs.declared.kind.PageKind.{PageKind}
 use Rattle.page_bytes.specs.declared.kind.PageKind.TheVariants.{Meta, Hnsw, IvfLists, IvfEntries}
-use Rattle.page_bytes.specs.Content.{Content, item_at}
+use Rattle.page_bytes.specs.Content.{Content}
 use Rattle.vec_tuples.specs.declared.element.ElementHead.{ElementHead}
 use Rattle.vec_tuples.specs.declared.links.Links.{Links}
-use Rattle.vec_tuples.specs.Reading.{element}
 use Rattle.vec_graph.specs.declared.node.Node.{Node}
 use Rattle.vec_graph.specs.declared.graph.Graph.{Graph}
-use Rattle.vec_graph.specs.Graph.{slots_of_level}
-use Rattle.page_redo.specs.Items.{in_whole, is_meta_page, is_graph_page}
-use Rattle.page_redo.specs.Standing.{item_in, head_in, links_in, root_on, root, is_of_level, is_entry, is_root, is_list_of, is_element, pointer_of, pointers, times_in, is_slot_below, is_list, is_node_item, IsNodePage, node_in, Stands}
+use Rattle.page_redo.specs.Items.{is_meta_page, is_graph_page}
+use Rattle.page_redo.specs.Standing.{head_in, links_in, root_on, root, is_of_level, is_entry, is_root, is_list_of, is_element, pointers, is_list, is_node_item, node_in, Stands}
 use Rattle.page_redo.proofs.PageSets.{IsChangedAt, node_page}
 use Rattle.page_redo.proofs.StandingLaws.{root_is, root_holds, node_pages, stands_from}
 use Rattle.byte_fields.proofs.EachField.{some_is}

@@ -1,5 +1,5 @@
 -- Pages of which one item of one page is changed, and the number of that page.
-use Rattle.std.proofs.Common.{◌≡◌, ℕ, ◌-◌, ◌==◌, Bool, true, false, cond, List, [], ◌∷◌, ◌++◌, zero, suc, length, Option, Some, None, refl, sym, ap, subst, ◌∙◌, arith}
+use Rattle.std.proofs.Common.{◌≡◌, ℕ, ◌-◌, ◌==◌, Bool, true, false, cond, List, [], ◌∷◌, ◌++◌, zero, suc, length, Option, Some, refl, sym, ap, ◌∙◌, arith}
 use Rattle.std.specs.Prelude.{slice_get, slice_set, flat_map}
 use Rattle.std.specs.Option.{option_and_then}
 use Rattle.std.specs.FinMap.{FinMap, get, insert}
@@ -11,7 +11,6 @@ use Rattle.vec_names.specs.Order.{tid_cmp}
 use Rattle.vec_names.specs.Places.{same_tid}
 use Rattle.byte_fields.specs.Reading.{Reader}
 use Rattle.byte_fields.proofs.EachField.{some_is}
-use Rattle.page_bytes.specs.declared.kind.PageKind.{PageKind}
 use Rattle.page_bytes.specs.Content.{Content, item_at}
 use Rattle.page_redo.specs.Items.{in_whole, with_item, is_graph_page}
 use Rattle.page_redo.specs.Redo.{numbered}

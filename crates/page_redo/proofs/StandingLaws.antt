@@ -1,13 +1,10 @@
 -- What is known of pages that stand for a graph, and how others come to stand for one.
-use Rattle.std.proofs.Common.{◌≡◌, ℕ, zero, suc, ◌≤◌, ◌&&◌, ◌==◌, Bool, true, false, List, length, Option, Some, None, refl, sym, ap, subst, ◌∙◌, arith, lit≤}
+use Rattle.std.proofs.Common.{◌≡◌, ℕ, zero, suc, ◌≤◌, ◌&&◌, ◌==◌, true, List, length, Some, sym, ap, subst, ◌∙◌, arith}
 use Rattle.std.specs.Prelude.{slice_get}
 use Rattle.std.specs.List.{All}
-use Rattle.std.specs.Option.{option_map, option_and_then}
+use Rattle.std.specs.Option.{option_and_then}
 use Rattle.std.proofs.lemmas.Bool.{and_parts, eqb-true}
 use Rattle.vec_names.specs.declared.tid.Tid.{Tid}
-use Rattle.vec_names.specs.declared.params.Params.{Params}
-use Rattle.vec_names.specs.Params.{IsInRange}
-use Rattle.byte_fields.proofs.FieldLaws.{AreBytes}
 use Rattle.page_bytes.specs.Content.{Content, IsPage, item_at}
 use Rattle.vec_tuples.specs.declared.meta.Meta.{Meta}
 use Rattle.vec_tuples.specs.Spelling.{IsMeta, meta_bytes}
@@ -16,7 +13,7 @@ use Rattle.vec_tuples.proofs.MetaLaws.{meta_field}
 use Rattle.vec_graph.specs.declared.graph.Graph.{Graph}
 use Rattle.vec_graph.specs.Graph.{node_at}
 use Rattle.page_redo.specs.Items.{in_whole, meta_at, is_graph, is_meta_page}
-use Rattle.page_redo.specs.Standing.{root_on, root, of_graph, is_root, IsNodePage, KeepsRulesUnder, KeepsRules, node_in, Stands}
+use Rattle.page_redo.specs.Standing.{root_on, root, of_graph, is_root, IsNodePage, KeepsRulesUnder, node_in, Stands}
 use Rattle.page_redo.proofs.Broken.{keeps}
 use Rattle.page_redo.proofs.Given.{then_is, if_is, when_is, item_bytes}
 use Rattle.page_redo.proofs.ItemLaws.{whole_spelled}
