@@ -40,7 +40,8 @@ first_of_two true b either none = refl
 first_of_two false b either none = absurd cc
 
 -- an element of a node page has its list
-pub list_there : (p : Params) (pages : List Content) (at : Tid) (x : List ℕ) (e : Element) → IsNodePage p pages at.block → item_in pages at ≡ Some x → in_whole (element p x) ≡ Some e → in_whole (links p x) ≡ None
+pub list_there : (p : Params) (pages : List Content) (at : Tid) (x : List ℕ) (e : Element) → IsNodePage p pages at.block
+    → item_in pages at ≡ Some x → in_whole (element p x) ≡ Some e → in_whole (links p x) ≡ None
     → (l : Links) × (links_in p pages e.list_at ≡ Some l)
 list_there p pages at x e page is element_is no_list =
     let h = head_of_element e in
@@ -61,10 +62,10 @@ module _ (pages after : List Content) (g : Graph) (place : Tid) (old new : List 
 
   named_stays : pointers p after ≡ pointers p pages
   named_stays = change.named p (
-    ap (λ o. option_to_list (option_map (λ (e : Element). e.list_at) o)) are.now
-    ∙ ap (λ t. t ∷ []) are.list_at
-    ∙ sym (ap (λ o. option_to_list (option_map (λ (e : Element). e.list_at) o)) are.was)
-  )
+      ap (λ o. option_to_list (option_map (λ (e : Element). e.list_at) o)) are.now
+      ∙ ap (λ t. t ∷ []) are.list_at
+      ∙ sym (ap (λ o. option_to_list (option_map (λ (e : Element). e.list_at) o)) are.was)
+      )
 
   head_now : head_in p after place ≡ Some (head_of_element f)
   head_now = ap (option_map head_of_element) (read_now change (element p) ∙ are.now)
@@ -104,7 +105,8 @@ module _ (pages after : List Content) (g : Graph) (place : Tid) (old new : List 
       ap (λ o. option_and_then (λ e. option_map (made_of e) (links_in p after e.list_at)) o) (read_now change (element p) ∙ are.now)
       ∙ ap (option_map (made_of f)) (links_stay f.list_at ∙ ap (links_in p pages) are.list_at ∙ list.1)
 
-  same_node : (o : Option Element) → option_and_then (λ e. option_map (made_of e) (links_in p after e.list_at)) o ≡ option_and_then (λ e. option_map (made_of e) (links_in p pages e.list_at)) o
+  same_node : (o : Option Element)
+      → option_and_then (λ e. option_map (made_of e) (links_in p after e.list_at)) o ≡ option_and_then (λ e. option_map (made_of e) (links_in p pages e.list_at)) o
   same_node None = refl
   same_node (Some e) = ap (option_map (made_of e)) (links_stay e.list_at)
 

@@ -12,7 +12,8 @@ use Rattle.byte_fields.proofs.FieldLaws.{AreBytes}
 use Rattle.page_bytes.specs.Content.{Content, IsItem, IsPage, item_at}
 use Rattle.page_redo.specs.Roles.{when, if_so}
 
-pub then_is : {A B : Type 0} (f : A → Option B) (o : Option A) (b : B) → option_and_then f o ≡ Some b → (a : A) × (o ≡ Some a) × (f a ≡ Some b)
+pub then_is : {A B : Type 0} (f : A → Option B) (o : Option A) (b : B) → option_and_then f o ≡ Some b
+    → (a : A) × (o ≡ Some a) × (f a ≡ Some b)
 then_is f None b is = absurd cc
 then_is f (Some a) b is = (a, refl, is)
 
@@ -33,7 +34,8 @@ when_is false v a is = absurd cc
 pub got_from_all : {X : Type 0} (P : X → Type 0) (xs : List X) (i : ℕ) (x : X) → All P xs → slice_get xs i ≡ Some x → P x
 got_from_all P xs i x all is = subst P (get_or_from_slice_get xs i x x is) (All-get_or P xs i x (slice_get_within xs i x is) all)
 
-pub item_bytes : (pages : List Content) (block off : ℕ) (c : Content) (x : List ℕ) → All IsPage pages → slice_get pages block ≡ Some c → item_at c.items off ≡ Some x → AreBytes x
+pub item_bytes : (pages : List Content) (block off : ℕ) (c : Content) (x : List ℕ) → All IsPage pages
+    → slice_get pages block ≡ Some c → item_at c.items off ≡ Some x → AreBytes x
 item_bytes pages block off c x all there is = bytes off is
   where
     whole : IsPage c

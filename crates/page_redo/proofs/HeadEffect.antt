@@ -50,10 +50,12 @@ head_fits to h k fits rows = subst IsHead (sym rows.made) (record {
 })
 
 -- the value stays
-same_value : (to : List HeapId → List HeapId) (e : Element) (k : ElementHead) → AreRowsChanged to (head_of_element e) k → beside k.deleted e.bits ≡ e.bits
+same_value : (to : List HeapId → List HeapId) (e : Element) (k : ElementHead) → AreRowsChanged to (head_of_element e) k
+    → beside k.deleted e.bits ≡ e.bits
 same_value to e k rows = ap (λ (k : ElementHead). beside k.deleted e.bits) rows.made ∙ ap (λ d. beside d e.bits) rows.not_deleted
 
-element_fits : (p : Params) (to : List HeapId → List HeapId) (e : Element) (k : ElementHead) → IsElement p e → AreRowsChanged to (head_of_element e) k → IsElement p (with_head k e)
+element_fits : (p : Params) (to : List HeapId → List HeapId) (e : Element) (k : ElementHead) → IsElement p e
+    → AreRowsChanged to (head_of_element e) k → IsElement p (with_head k e)
 element_fits p to e k fits rows =
     let b : beside k.deleted e.bits ≡ e.bits = same_value to e k rows in
     let not_deleted : k.deleted ≡ false = ap (λ (k : ElementHead). k.deleted) rows.made ∙ rows.not_deleted in
@@ -63,7 +65,8 @@ element_fits p to e k fits rows =
       cleared = sym (ap (λ d. beside d (beside k.deleted e.bits)) not_deleted);
     }
 
-node_is : (to : List HeapId → List HeapId) (e : Element) (k : ElementHead) → AreRowsChanged to (head_of_element e) k → (l : Links) → (λ (n : Node). record n { ids = to n.ids }) (made_of e l) ≡ made_of (with_head k e) l
+node_is : (to : List HeapId → List HeapId) (e : Element) (k : ElementHead) → AreRowsChanged to (head_of_element e) k
+    → (l : Links) → (λ (n : Node). record n { ids = to n.ids }) (made_of e l) ≡ made_of (with_head k e) l
 node_is to e k rows l =
     ap (λ b. made_of (element_with (head_with e.level e.deleted e.version (to e.ids.items) e.list_at) b) l) (sym (same_value to e k rows))
     ∙ ap (λ (h : ElementHead). made_of (element_with h (beside k.deleted e.bits)) l) (sym rows.made)
@@ -71,7 +74,8 @@ node_is to e k rows l =
 -- ---- redo
 
 -- an event that touches one block fits only that block's page
-pub one_place : (pages : List Content) (h : Graph) (a number block : ℕ) (role : Role) (page after : Content) → slice_get pages block ≡ Some page → option_map (numbered number) (at_one a role block page) ≡ Some after
+pub one_place : (pages : List Content) (h : Graph) (a number block : ℕ) (role : Role) (page after : Content)
+    → slice_get pages block ≡ Some page → option_map (numbered number) (at_one a role block page) ≡ Some after
     → ((d : Content) → slice_get pages a ≡ Some page → role page ≡ Some d → Stands (slice_set pages a (numbered number d)) h) → Stands (slice_set pages block after) h
 one_place pages h a number block role page after there is effect =
     let d = map_is (numbered number) (at_one a role block page) after is in
@@ -90,7 +94,8 @@ module _ (pages : List Content) (g : Graph) (place : Tid) (number : ℕ) (all : 
   abbrev p : Params
   p = s.meta.params
 
-  rows_effect : (change : ElementHead → Option ElementHead) (to : List HeapId → List HeapId) → ((h k : ElementHead) → IsHead h → change h ≡ Some k → AreRowsChanged to h k)
+  rows_effect : (change : ElementHead → Option ElementHead) (to : List HeapId → List HeapId)
+      → ((h k : ElementHead) → IsHead h → change h ≡ Some k → AreRowsChanged to h k)
       → (c d : Content) → slice_get pages place.block ≡ Some c → on_graph p (head_changed change p place.off) c ≡ Some d
       → Stands (slice_set pages place.block (numbered number d)) (changed g place (λ n. record n { ids = to n.ids }))
   rows_effect change to rows c d there is =
@@ -128,7 +133,8 @@ pub is_new : (deleted : Bool) (found version : ℕ) → is_current deleted found
 is_new false found version is = refl
 is_new true found version is = absurd cc
 
-pub rows_joined : (version : ℕ) (id : HeapId) (h k : ElementHead) → IsHead h → joined version id h ≡ Some k → AreRowsChanged (λ ids. ids ++ id ∷ []) h k
+pub rows_joined : (version : ℕ) (id : HeapId) (h k : ElementHead) → IsHead h → joined version id h ≡ Some k
+    → AreRowsChanged (λ ids. ids ++ id ∷ []) h k
 rows_joined version id h k fits is =
     let w = when_is (is_current h.deleted h.version version && nat_lt (length h.ids.items) 10) (head_with h.level h.deleted h.version (h.ids.items ++ id ∷ []) h.list_at) k is in
     let t = and_parts (is_current h.deleted h.version version) (nat_lt (length h.ids.items) 10) w.0 in
@@ -138,18 +144,21 @@ kept_few : (mask : ℕ) (ids : List HeapId) → length (kept mask ids) ≤ lengt
 kept_few mask [] = omega arith
 kept_few mask (id ∷ ids) = by_bit (mask % 2 == 1) (kept_few (mask / 2) ids)
   where
-    by_bit : (b : Bool) → length (kept (mask / 2) ids) ≤ length ids → length (if b then kept (mask / 2) ids else id ∷ kept (mask / 2) ids) ≤ length (id ∷ ids)
+    by_bit : (b : Bool) → length (kept (mask / 2) ids) ≤ length ids
+        → length (if b then kept (mask / 2) ids else id ∷ kept (mask / 2) ids) ≤ length (id ∷ ids)
     by_bit true rest = omega (arith, rest)
     by_bit false rest = omega (arith, rest)
 
-pub rows_dropped : (version gone : ℕ) (h k : ElementHead) → IsHead h → dropped version gone h ≡ Some k → AreRowsChanged (kept gone) h k
+pub rows_dropped : (version gone : ℕ) (h k : ElementHead) → IsHead h → dropped version gone h ≡ Some k
+    → AreRowsChanged (kept gone) h k
 rows_dropped version gone h k fits is =
     let w = when_is (is_current h.deleted h.version version && nat_lt gone (2 ^ length h.ids.items)) (head_with h.level h.deleted h.version (kept gone h.ids.items) h.list_at) k is in
     let t = and_parts (is_current h.deleted h.version version) (nat_lt gone (2 ^ length h.ids.items)) w.0 in
     record { made = sym w.1; few = omega (arith, kept_few gone h.ids.items, fits.few); not_deleted = is_new h.deleted h.version version t.0 }
 
 module _ (pages : List Content) (g : Graph) (place : Tid) (number block : ℕ) (page after : Content) (all : All IsPage pages) (s : Stands pages g) (there : slice_get pages block ≡ Some page) where
-  head_effect : (change : ElementHead → Option ElementHead) (to : List HeapId → List HeapId) → ((h k : ElementHead) → IsHead h → change h ≡ Some k → AreRowsChanged to h k)
+  head_effect : (change : ElementHead → Option ElementHead) (to : List HeapId → List HeapId)
+      → ((h k : ElementHead) → IsHead h → change h ≡ Some k → AreRowsChanged to h k)
       → option_map (numbered number) (at_one place.block (on_graph g.params (head_changed change g.params place.off)) block page) ≡ Some after
       → Stands (slice_set pages block after) (changed g place (λ n. record n { ids = to n.ids }))
   head_effect change to rows is =
@@ -157,10 +166,12 @@ module _ (pages : List Content) (g : Graph) (place : Tid) (number block : ℕ) (
       (subst (λ (p : Params). option_map (numbered number) (at_one place.block (on_graph p (head_changed change p place.off)) block page) ≡ Some after) s.params is)
       (λ d here made. rows_effect pages g place number all s change to rows page d here made)
 
-  pub join_effect : (version : ℕ) (id : HeapId) → option_map (numbered number) (at_one place.block (on_graph g.params (head_changed (joined version id) g.params place.off)) block page) ≡ Some after
+  pub join_effect : (version : ℕ) (id : HeapId)
+      → option_map (numbered number) (at_one place.block (on_graph g.params (head_changed (joined version id) g.params place.off)) block page) ≡ Some after
       → Stands (slice_set pages block after) (changed g place (λ n. record n { ids = n.ids ++ id ∷ [] }))
   join_effect version id = head_effect (joined version id) (λ ids. ids ++ id ∷ []) (rows_joined version id)
 
-  pub drop_effect : (version gone : ℕ) → option_map (numbered number) (at_one place.block (on_graph g.params (head_changed (dropped version gone) g.params place.off)) block page) ≡ Some after
+  pub drop_effect : (version gone : ℕ)
+      → option_map (numbered number) (at_one place.block (on_graph g.params (head_changed (dropped version gone) g.params place.off)) block page) ≡ Some after
       → Stands (slice_set pages block after) (changed g place (λ n. record n { ids = kept gone n.ids }))
   drop_effect version gone = head_effect (dropped version gone) (kept gone) (rows_dropped version gone)

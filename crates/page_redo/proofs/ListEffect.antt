@@ -49,11 +49,13 @@ names_itself at =
     let one : times_in at (at ∷ []) ≡ 0 + 1 = ap (λ b. 0 + cond b 1 0) (place_itself at) in
     omega (arith, one)
 
-alike_lists : (p : Params) (h : ElementHead) (l k : Links) → k.version ≡ l.version → k.deleted ≡ l.deleted → length k.tids ≡ length l.tids → is_list_of p h (Some k) ≡ is_list_of p h (Some l)
+alike_lists : (p : Params) (h : ElementHead) (l k : Links) → k.version ≡ l.version → k.deleted ≡ l.deleted
+    → length k.tids ≡ length l.tids → is_list_of p h (Some k) ≡ is_list_of p h (Some l)
 alike_lists p h l k version deleted count = rw (version, deleted, count) refl
 
 -- a neighbour tuple of a node page keeps its rule
-pub list_good : (p : Params) (pages : List Content) (at : Tid) (x : List ℕ) (l : Links) → IsNodePage p pages at.block → item_in pages at ≡ Some x → in_whole (element p x) ≡ None → in_whole (links p x) ≡ Some l
+pub list_good : (p : Params) (pages : List Content) (at : Tid) (x : List ℕ) (l : Links) → IsNodePage p pages at.block
+    → item_in pages at ≡ Some x → in_whole (element p x) ≡ None → in_whole (links p x) ≡ Some l
     → is_list p pages at (Some l) ≡ true
 list_good p pages at x l page is no_element list =
     let item = page.items at x refl is in
@@ -63,7 +65,8 @@ list_good p pages at x l page is no_element list =
     ap (is_list p pages at) (sym as_list) ∙ second_of_two (is_element p pages (head_in p pages at)) (is_list p pages at (links_in p pages at)) item not_element
 
 -- the list pointer of an element
-pub pointer_names : (p : Params) (x : List ℕ) (e : Element) (at : Tid) → in_whole (element p x) ≡ Some e → e.list_at ≡ at → 1 ≤ times_in at (pointer_of p x)
+pub pointer_names : (p : Params) (x : List ℕ) (e : Element) (at : Tid) → in_whole (element p x) ≡ Some e → e.list_at ≡ at
+    → 1 ≤ times_in at (pointer_of p x)
 pointer_names p x e at is names =
     let one : pointer_of p x ≡ at ∷ [] = ap (λ o. option_to_list (option_map (λ (e : Element). e.list_at) o)) is ∙ ap (λ t. t ∷ []) names in
     subst (λ ts. 1 ≤ times_in at ts) (sym one) (names_itself at)

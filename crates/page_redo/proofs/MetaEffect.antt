@@ -35,7 +35,8 @@ use Rattle.page_redo.proofs.StandingLaws.{IsRootOf, root_is, root_fits, root_spe
 abbrev root_place : Tid
 root_place = record { block = 0; off = 1; within_blocks = lit≤ tt; counted_from_one = lit≤ tt; in_two_bytes = lit< tt }
 
-root_from : (pages : List Content) (c : Content) (x : List ℕ) (m : Meta) → slice_get pages 0 ≡ Some c → is_meta_page c.kind ≡ true → length c.items ≡ 1 → item_at c.items 1 ≡ Some x → in_whole (meta x) ≡ Some m
+root_from : (pages : List Content) (c : Content) (x : List ℕ) (m : Meta) → slice_get pages 0 ≡ Some c
+    → is_meta_page c.kind ≡ true → length c.items ≡ 1 → item_at c.items 1 ≡ Some x → in_whole (meta x) ≡ Some m
     → is_graph m.params.kind ≡ true → root pages ≡ Some m
 root_from pages c x m there kind alone is reads graph =
     let tests : (is_meta_page c.kind && length c.items == 1) ≡ true = and_from (is_meta_page c.kind) (length c.items == 1) kind (eq-eqb (length c.items) 1 alone) in
@@ -96,7 +97,8 @@ module _ (pages : List Content) (g : Graph) (c : Content) (number : ℕ) (all : 
       (ap (is_element p after) (heads_stay at) ∙ same_element p pages after (head_in p pages at) links_stay)
       (ap (is_list p after at) (links_stay at) ∙ same_list p pages after at (links_in p pages at) change.count named_stays)
 
-  same_node : (o : Option Element) → option_and_then (λ e. option_map (made_of e) (links_in p after e.list_at)) o ≡ option_and_then (λ e. option_map (made_of e) (links_in p pages e.list_at)) o
+  same_node : (o : Option Element)
+      → option_and_then (λ e. option_map (made_of e) (links_in p after e.list_at)) o ≡ option_and_then (λ e. option_map (made_of e) (links_in p pages e.list_at)) o
   same_node None = refl
   same_node (Some e) = ap (option_map (made_of e)) (links_stay e.list_at)
 
@@ -110,7 +112,8 @@ module _ (pages : List Content) (g : Graph) (c : Content) (number : ℕ) (all : 
       root_from after (numbered number (with_item c 1 (meta_bytes m))) (meta_bytes m) m (set_here pages 0 c (numbered number (with_item c 1 (meta_bytes m))) there) kind
       (length-set c.items (1 - 1) (meta_bytes m) ∙ alone) (with_item_here c 1 r.item (meta_bytes m) old_is) (whole_read meta_field (meta_bytes m) m fits refl) r.graph
 
-  meta_effect : hint ≤ length pages → is_entry p pages entry level ≡ true → Stands after (record g { entry = entry; level = level; hint = hint })
+  meta_effect : hint ≤ length pages → is_entry p pages entry level ≡ true
+      → Stands after (record g { entry = entry; level = level; hint = hint })
   meta_effect low good =
       let low_after : hint ≤ length after = omega (arith, low, change.count) in
       let same : is_entry p after entry level ≡ is_entry p pages entry level = same_entry p pages after entry level (λ at level. ap (is_of_level level) (heads_stay at)) in
@@ -135,7 +138,8 @@ module _ (pages : List Content) (g : Graph) (all : All IsPage pages) (s : Stands
       ap (λ (d : Content). meta_at d) same ∙ ap (λ o. option_and_then (λ x. in_whole (meta x)) o) r.is ∙ r.reads
 
   -- a node's level is that of an element
-  element_there : (at : Tid) (level : ℕ) → HasLevel g at level → (level < 256) × (is_of_level level (head_in s.meta.params pages at) ≡ true)
+  element_there : (at : Tid) (level : ℕ) → HasLevel g at level
+      → (level < 256) × (is_of_level level (head_in s.meta.params pages at) ≡ true)
   element_there at level has =
       let p = s.meta.params in
       let e = then_is (λ e. option_map (made_of e) (links_in p pages e.list_at)) (element_in p pages at) has.node (sym (s.nodes at) ∙ has.stands) in
@@ -146,18 +150,21 @@ module _ (pages : List Content) (g : Graph) (all : All IsPage pages) (s : Stands
       let spelled = whole_spelled (element_field p (params_in_range pages g s all)) x.0 e.0 (item_bytes pages at.block at.off c.0 x.0 all c.1 c.2) x.2 in
       (omega (arith, spelled.0.head.level, same), ap (λ o. is_of_level level (option_map head_of_element o)) e.1 ∙ eq-eqb e.0.level level same)
 
-  entry_good : (to : Option Tid) (level : ℕ) → ((at : Tid) → to ≡ Some at → HasLevel g at level) → is_entry s.meta.params pages to level ≡ true
+  entry_good : (to : Option Tid) (level : ℕ) → ((at : Tid) → to ≡ Some at → HasLevel g at level)
+      → is_entry s.meta.params pages to level ≡ true
   entry_good None level has = refl
   entry_good (Some at) level has = (element_there at level (has at refl)).1
 
-  level_good : (to : Option Tid) (level : ℕ) → is_level to level ≡ true → ((at : Tid) → to ≡ Some at → HasLevel g at level) → IsLevelOf to level
+  level_good : (to : Option Tid) (level : ℕ) → is_level to level ≡ true → ((at : Tid) → to ≡ Some at → HasLevel g at level)
+      → IsLevelOf to level
   level_good None level is has = eqb-true level 0 is
   level_good (Some at) level is has = (element_there at level (has at refl)).0
 
   -- ---- redo
 
   module _ (number block : ℕ) (page after : Content) (there : slice_get pages block ≡ Some page) where
-    meta_redone : (change : Meta → Option Meta) (h : Graph) → option_map (numbered number) (at_one 0 (on_meta (meta_changed change)) block page) ≡ Some after
+    meta_redone : (change : Meta → Option Meta) (h : Graph)
+        → option_map (numbered number) (at_one 0 (on_meta (meta_changed change)) block page) ≡ Some after
         → ((k : Meta) → slice_get pages 0 ≡ Some page → change s.meta ≡ Some k → Stands (slice_set pages 0 (numbered number (with_item page 1 (meta_bytes k)))) h) → Stands (slice_set pages block after) h
     meta_redone change h is effect =
         one_place pages h 0 number block (on_meta (meta_changed change)) page after there is (λ d here made.
@@ -166,7 +173,9 @@ module _ (pages : List Content) (g : Graph) (all : All IsPage pages) (s : Stands
         (ap (λ o. option_and_then (λ m. option_map (λ changed. with_item page 1 (meta_bytes changed)) (change m)) o) (sym (meta_there page here)) ∙ on.1) in
         subst (λ (z : Content). Stands (slice_set pages 0 (numbered number z)) h) a.2 (effect a.0 here a.1))
 
-    pub hint_effect : (hint : ℕ) → hint ≤ g.blocks → option_map (numbered number) (at_one 0 (on_meta (meta_changed (hinted hint))) block page) ≡ Some after → Stands (slice_set pages block after) (record g { hint = hint })
+    pub hint_effect : (hint : ℕ) → hint ≤ g.blocks
+        → option_map (numbered number) (at_one 0 (on_meta (meta_changed (hinted hint))) block page) ≡ Some after
+        → Stands (slice_set pages block after) (record g { hint = hint })
     hint_effect hint low is = meta_redone (hinted hint) (record g { hint = hint }) is (λ k here made.
         let w = when_is (is_graph s.meta.params.kind && (nat_le 1 hint && nat_le hint 32768)) (record s.meta { hint = hint }) k made in
         let t = and_parts (is_graph s.meta.params.kind) (nat_le 1 hint && nat_le hint 32768) w.0 in
@@ -185,7 +194,8 @@ module _ (pages : List Content) (g : Graph) (all : All IsPage pages) (s : Stands
         (subst (λ (h : Graph). Stands (slice_set pages 0 (numbered number (with_item page 1 (meta_bytes (record s.meta { hint = hint }))))) h) same
         (meta_effect pages g page number all s here s.meta.entry s.meta.level hint fits (omega (arith, low, s.blocks)) root_parts.1)))
 
-    pub entry_effect : (to : Option Tid) (level : ℕ) → ((at : Tid) → to ≡ Some at → HasLevel g at level) → option_map (numbered number) (at_one 0 (on_meta (meta_changed (entered to level))) block page) ≡ Some after
+    pub entry_effect : (to : Option Tid) (level : ℕ) → ((at : Tid) → to ≡ Some at → HasLevel g at level)
+        → option_map (numbered number) (at_one 0 (on_meta (meta_changed (entered to level))) block page) ≡ Some after
         → Stands (slice_set pages block after) (record g { entry = to; level = level })
     entry_effect to level has is = meta_redone (entered to level) (record g { entry = to; level = level }) is (λ k here made.
         let w = when_is (is_graph s.meta.params.kind && is_level to level) (record s.meta { entry = to; level = level }) k made in

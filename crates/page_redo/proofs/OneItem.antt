@@ -26,7 +26,8 @@ not_both IvfLists graph root = absurd cc
 not_both IvfEntries graph root = absurd cc
 
 -- a page of a graph is not the page of block 0
-pub not_root : (pages : List Content) (g : Graph) (block : ℕ) (c : Content) → Stands pages g → slice_get pages block ≡ Some c → is_graph_page c.kind ≡ true → block ≡ 0 → ⊥
+pub not_root : (pages : List Content) (g : Graph) (block : ℕ) (c : Content) → Stands pages g → slice_get pages block ≡ Some c
+    → is_graph_page c.kind ≡ true → block ≡ 0 → ⊥
 not_root pages g block c s there graph first =
     let r = root_is pages s.meta s.read in
     let same : r.page ≡ c = some_is r.page c (sym r.there ∙ ap (slice_get pages) (sym first) ∙ there) in
@@ -34,19 +35,23 @@ not_root pages g block c s there graph first =
 
 -- ---- what depends on little
 
-pub same_list_of : (p : Params) (h k : ElementHead) (o : Option Links) → h.level ≡ k.level → h.version ≡ k.version → h.deleted ≡ k.deleted → is_list_of p h o ≡ is_list_of p k o
+pub same_list_of : (p : Params) (h k : ElementHead) (o : Option Links) → h.level ≡ k.level → h.version ≡ k.version
+    → h.deleted ≡ k.deleted → is_list_of p h o ≡ is_list_of p k o
 same_list_of p h k None level version deleted = refl
 same_list_of p h k (Some l) level version deleted = rw (level, version, deleted) refl
 
-pub same_element : (p : Params) (pages after : List Content) (o : Option ElementHead) → ((at : Tid) → links_in p after at ≡ links_in p pages at) → is_element p after o ≡ is_element p pages o
+pub same_element : (p : Params) (pages after : List Content) (o : Option ElementHead)
+    → ((at : Tid) → links_in p after at ≡ links_in p pages at) → is_element p after o ≡ is_element p pages o
 same_element p pages after None links = refl
 same_element p pages after (Some h) links = ap (is_list_of p h) (links h.list_at)
 
-pub same_list : (p : Params) (pages after : List Content) (at : Tid) (o : Option Links) → length after ≡ length pages → pointers p after ≡ pointers p pages → is_list p after at o ≡ is_list p pages at o
+pub same_list : (p : Params) (pages after : List Content) (at : Tid) (o : Option Links) → length after ≡ length pages
+    → pointers p after ≡ pointers p pages → is_list p after at o ≡ is_list p pages at o
 same_list p pages after at None count named = refl
 same_list p pages after at (Some l) count named = rw (count, named) refl
 
-pub same_entry : (p : Params) (pages after : List Content) (entry : Option Tid) (level : ℕ) → ((at : Tid) (level : ℕ) → is_of_level level (head_in p after at) ≡ is_of_level level (head_in p pages at))
+pub same_entry : (p : Params) (pages after : List Content) (entry : Option Tid) (level : ℕ)
+    → ((at : Tid) (level : ℕ) → is_of_level level (head_in p after at) ≡ is_of_level level (head_in p pages at))
     → is_entry p after entry level ≡ is_entry p pages entry level
 same_entry p pages after None level heads = refl
 same_entry p pages after (Some at) level heads = heads at level

@@ -32,7 +32,8 @@ by_place P at place same other = cases (is_place at place) refl
 pub get_here : {V : Type 0} (m : FinMap tid_cmp V) (place : Tid) (v : V) → get (insert m place v) place ≡ Some v
 get_here m place v = get_inserted m place v place ∙ ap (λ b. cond b (Some v) (get m place)) (place_itself place)
 
-pub get_apart : {V : Type 0} (m : FinMap tid_cmp V) (place at : Tid) (v : V) → (place ≡ at → ⊥) → get (insert m place v) at ≡ get m at
+pub get_apart : {V : Type 0} (m : FinMap tid_cmp V) (place at : Tid) (v : V) → (place ≡ at → ⊥)
+    → get (insert m place v) at ≡ get m at
 get_apart m place at v apart = get_inserted m place v at ∙ cases (is_place at place) refl
   where
     cases : (test : Bool) → is_place at place ≡ test → cond test (Some v) (get m at) ≡ get m at
@@ -41,7 +42,8 @@ get_apart m place at v apart = get_inserted m place v at ∙ cases (is_place at 
 
 -- ---- a list of which one element is changed
 
-pub flat_map_set : {X A : Type 0} (f : X → List A) (xs : List X) (i : ℕ) (old x : X) → slice_get xs i ≡ Some old → f x ≡ f old → flat_map f (slice_set xs i x) ≡ flat_map f xs
+pub flat_map_set : {X A : Type 0} (f : X → List A) (xs : List X) (i : ℕ) (old x : X) → slice_get xs i ≡ Some old → f x ≡ f old
+    → flat_map f (slice_set xs i x) ≡ flat_map f xs
 flat_map_set f [] i old x is same = absurd cc
 flat_map_set f (y ∷ ys) zero old x is same = ap (λ l. l ++ flat_map f ys) (same ∙ ap f (sym (some_is y old is)))
 flat_map_set f (y ∷ ys) (suc i) old x is same = ap (λ l. f y ++ l) (flat_map_set f ys i old x is same)
@@ -55,13 +57,16 @@ pub record IsChangedAt (place : Tid) (old new : List ℕ) (pages after : List Co
   pub now : item_in after place ≡ Some new
   pub apart : (at : Tid) → (place ≡ at → ⊥) → item_in after at ≡ item_in pages at
   pub elsewhere : (block : ℕ) → (place.block ≡ block → ⊥) → slice_get after block ≡ slice_get pages block
-  pub kinds : (block : ℕ) (d : Content) → slice_get after block ≡ Some d → (c : Content) × (slice_get pages block ≡ Some c) × (d.kind ≡ c.kind)
+  pub kinds : (block : ℕ) (d : Content) → slice_get after block ≡ Some d
+      → (c : Content) × (slice_get pages block ≡ Some c) × (d.kind ≡ c.kind)
   pub named : (p : Params) → pointer_of p new ≡ pointer_of p old → pointers p after ≡ pointers p pages
 
-item_from : (pages : List Content) (at : Tid) (o : Option Content) → slice_get pages at.block ≡ o → item_in pages at ≡ option_and_then (λ (c : Content). item_at c.items at.off) o
+item_from : (pages : List Content) (at : Tid) (o : Option Content) → slice_get pages at.block ≡ o
+    → item_in pages at ≡ option_and_then (λ (c : Content). item_at c.items at.off) o
 item_from pages at o is = ap (λ o. option_and_then (λ (c : Content). item_at c.items at.off) o) is
 
-place_in_list : (items : List (List ℕ)) (off : ℕ) (old : List ℕ) → item_at items off ≡ Some old → slice_get items (off - 1) ≡ Some old
+place_in_list : (items : List (List ℕ)) (off : ℕ) (old : List ℕ) → item_at items off ≡ Some old
+    → slice_get items (off - 1) ≡ Some old
 place_in_list items zero old is = absurd cc
 place_in_list items (suc i) old is = ap (slice_get items) (let back : suc i - 1 ≡ i = omega arith in back) ∙ is
 
@@ -88,10 +93,12 @@ module _ (pages : List Content) (place : Tid) (c : Content) (number : ℕ) (old 
           let not_same : place.block ≡ at.block → ⊥ = λ f. let t = eq-eqb at.block place.block (sym f) in absurd cc in
           ap (λ o. option_and_then (λ (c : Content). item_at c.items at.off) o) (set_apart pages place.block at.block page not_same)
 
-  kinds_stay : (block : ℕ) (d : Content) → slice_get after block ≡ Some d → (b : Content) × (slice_get pages block ≡ Some b) × (d.kind ≡ b.kind)
+  kinds_stay : (block : ℕ) (d : Content) → slice_get after block ≡ Some d
+      → (b : Content) × (slice_get pages block ≡ Some b) × (d.kind ≡ b.kind)
   kinds_stay block d got = by_block (block == place.block) refl
     where
-      by_block : (test : Bool) → (block == place.block) ≡ test → (b : Content) × (slice_get pages block ≡ Some b) × (d.kind ≡ b.kind)
+      by_block : (test : Bool) → (block == place.block) ≡ test
+          → (b : Content) × (slice_get pages block ≡ Some b) × (d.kind ≡ b.kind)
       by_block true e =
           let same : block ≡ place.block = eqb-true block place.block e in
           let d_is : d ≡ page = some_is d page (sym got ∙ ap (slice_get after) same ∙ block_now) in
@@ -125,7 +132,8 @@ module _ {place : Tid} {old new : List ℕ} {pages after : List Content} (change
   read_apart f at other = ap (λ o. option_and_then (λ x. in_whole (f x)) o) (change.apart at other)
 
   -- where both items read alike, all places do
-  pub read_alike : {A : Type 0} (f : Reader A) → in_whole (f new) ≡ in_whole (f old) → (at : Tid) → read_in f after at ≡ read_in f pages at
+  pub read_alike : {A : Type 0} (f : Reader A) → in_whole (f new) ≡ in_whole (f old) → (at : Tid)
+      → read_in f after at ≡ read_in f pages at
   read_alike f same at = by_place (read_in f after at ≡ read_in f pages at) at place
       (λ e. ap (read_in f after) (sym e) ∙ read_now f ∙ same ∙ sym (read_was f) ∙ ap (read_in f pages) e)
       (λ other. read_apart f at other)
@@ -136,7 +144,8 @@ module _ {place : Tid} {old new : List ℕ} {pages after : List Content} (change
       (λ e. (old, ap (item_in pages) (sym e) ∙ change.was))
       (λ other. (x, sym (change.apart at other) ∙ is))
 
-  pub node_page : (p : Params) → ((at : Tid) → is_node_item p pages at ≡ true → is_node_item p after at ≡ true) → (block : ℕ) → IsNodePage p pages block → IsNodePage p after block
+  pub node_page : (p : Params) → ((at : Tid) → is_node_item p pages at ≡ true → is_node_item p after at ≡ true) → (block : ℕ)
+      → IsNodePage p pages block → IsNodePage p after block
   node_page p items block whole = record {
     kind = λ d is. let k = change.kinds block d is in ap is_graph_page k.2 ∙ whole.kind k.0 k.1;
     items = λ at x same is. let y = stood at x is in items at (whole.items at y.0 same y.1);

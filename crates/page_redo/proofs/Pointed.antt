@@ -15,7 +15,8 @@ times_both : (at : Tid) (xs ys : List Tid) → times_in at (xs ++ ys) ≡ times_
 times_both at xs ys = sum_by-append (λ t. cond (is_place at t) 1 0) xs ys
 
 -- what an element of a list names is named by the list
-pub times_one : {X : Type 0} (f : X → List Tid) (at : Tid) (xs : List X) (i : ℕ) (x : X) → slice_get xs i ≡ Some x → times_in at (f x) ≤ times_in at (flat_map f xs)
+pub times_one : {X : Type 0} (f : X → List Tid) (at : Tid) (xs : List X) (i : ℕ) (x : X) → slice_get xs i ≡ Some x
+    → times_in at (f x) ≤ times_in at (flat_map f xs)
 times_one f at [] i x is = absurd cc
 times_one f at (y ∷ ys) zero x is =
     let same : times_in at (f y) ≡ times_in at (f x) = ap (λ z. times_in at (f z)) (some_is y x is) in
@@ -23,7 +24,8 @@ times_one f at (y ∷ ys) zero x is =
 times_one f at (y ∷ ys) (suc i) x is = omega (arith, times_both at (f y) (flat_map f ys), times_one f at ys i x is)
 
 -- and two elements name it apart
-pub times_two : {X : Type 0} (f : X → List Tid) (at : Tid) (xs : List X) (i j : ℕ) (x y : X) → (i ≡ j → ⊥) → slice_get xs i ≡ Some x → slice_get xs j ≡ Some y
+pub times_two : {X : Type 0} (f : X → List Tid) (at : Tid) (xs : List X) (i j : ℕ) (x y : X) → (i ≡ j → ⊥)
+    → slice_get xs i ≡ Some x → slice_get xs j ≡ Some y
     → times_in at (f x) + times_in at (f y) ≤ times_in at (flat_map f xs)
 times_two f at [] i j x y apart is also = absurd cc
 times_two f at (z ∷ zs) zero zero x y apart is also = absurd (apart refl)
@@ -38,18 +40,21 @@ times_two f at (z ∷ zs) (suc i) (suc j) x y apart is also =
 
 -- ---- the items of pages
 
-item_one : (f : List ℕ → List Tid) (at : Tid) (items : List (List ℕ)) (off : ℕ) (x : List ℕ) → item_at items off ≡ Some x → times_in at (f x) ≤ times_in at (flat_map f items)
+item_one : (f : List ℕ → List Tid) (at : Tid) (items : List (List ℕ)) (off : ℕ) (x : List ℕ) → item_at items off ≡ Some x
+    → times_in at (f x) ≤ times_in at (flat_map f items)
 item_one f at items zero x is = absurd cc
 item_one f at items (suc i) x is = times_one f at items i x is
 
-item_two : (f : List ℕ → List Tid) (at : Tid) (items : List (List ℕ)) (a b : ℕ) (x y : List ℕ) → (a ≡ b → ⊥) → item_at items a ≡ Some x → item_at items b ≡ Some y
+item_two : (f : List ℕ → List Tid) (at : Tid) (items : List (List ℕ)) (a b : ℕ) (x y : List ℕ) → (a ≡ b → ⊥)
+    → item_at items a ≡ Some x → item_at items b ≡ Some y
     → times_in at (f x) + times_in at (f y) ≤ times_in at (flat_map f items)
 item_two f at items zero b x y apart is also = absurd cc
 item_two f at items (suc a) zero x y apart is also = absurd cc
 item_two f at items (suc a) (suc b) x y apart is also = times_two f at items a b x y (λ e. apart (ap (λ n. suc n) e)) is also
 
 -- two items that name a place stand at one place, where it is named once
-pub named_once : (p : Params) (pages : List Content) (at a b : Tid) (x y : List ℕ) → times_in at (pointers p pages) ≡ 1 → item_in pages a ≡ Some x → item_in pages b ≡ Some y
+pub named_once : (p : Params) (pages : List Content) (at a b : Tid) (x y : List ℕ) → times_in at (pointers p pages) ≡ 1
+    → item_in pages a ≡ Some x → item_in pages b ≡ Some y
     → 1 ≤ times_in at (pointer_of p x) → 1 ≤ times_in at (pointer_of p y) → a ≡ b
 named_once p pages at a b x y once is also one two = by_block (a.block == b.block) refl
   where

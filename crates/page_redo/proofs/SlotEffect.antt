@@ -38,7 +38,8 @@ any_slots : (tids : List (Option Tid)) → AllByRecursion (IsSlotOf false) tids
 any_slots [] = tt
 any_slots (t ∷ tids) = (tt, any_slots tids)
 
-list_fits : (p : Params) (to : List (Option Tid) → List (Option Tid)) (l k : Links) → IsLinks p l → AreSlotsChanged to l k → IsLinks p k
+list_fits : (p : Params) (to : List (Option Tid) → List (Option Tid)) (l k : Links) → IsLinks p l → AreSlotsChanged to l k
+    → IsLinks p k
 list_fits p to l k fits slots = subst (IsLinks p) (sym slots.made) (record {
   version_low = fits.version_low;
   version_high = fits.version_high;
@@ -52,7 +53,8 @@ module _ (pages : List Content) (g : Graph) (place at : Tid) (n : Node) (number 
   abbrev p : Params
   p = s.meta.params
 
-  slots_effect : (change : Links → Option Links) (to : List (Option Tid) → List (Option Tid)) → ((l k : Links) → change l ≡ Some k → AreSlotsChanged to l k)
+  slots_effect : (change : Links → Option Links) (to : List (Option Tid) → List (Option Tid))
+      → ((l k : Links) → change l ≡ Some k → AreSlotsChanged to l k)
       → ((tids : List (Option Tid)) → list_all (is_slot_below (length pages)) tids ≡ true → list_all (is_slot_below (length pages)) (to tids) ≡ true)
       → (c d : Content) → slice_get pages place.block ≡ Some c → on_graph p (links_changed change p place.off) c ≡ Some d
       → Stands (slice_set pages place.block (numbered number d)) (changed g at (λ n. record n { slots = to n.slots }))
@@ -87,19 +89,22 @@ module _ (pages : List Content) (g : Graph) (place at : Tid) (n : Node) (number 
 
 -- ---- the slots
 
-pub slots_linked : (version slot : ℕ) (to : Tid) (l k : Links) → linked version slot to l ≡ Some k → AreSlotsChanged (λ tids. slice_set tids slot (Some to)) l k
+pub slots_linked : (version slot : ℕ) (to : Tid) (l k : Links) → linked version slot to l ≡ Some k
+    → AreSlotsChanged (λ tids. slice_set tids slot (Some to)) l k
 slots_linked version slot to l k is =
     let w = when_is (is_current l.deleted l.version version && nat_lt slot (length l.tids)) (links_with l.deleted l.version (slice_set l.tids slot (Some to))) k is in
     let t = and_parts (is_current l.deleted l.version version) (nat_lt slot (length l.tids)) w.0 in
     record { made = sym w.1; as_many = length-set l.tids slot (Some to); not_deleted = is_new l.deleted l.version version t.0 }
 
-pub slots_relisted : (version : ℕ) (lists : List (Option Tid)) (l k : Links) → relisted version lists l ≡ Some k → AreSlotsChanged (λ tids. lists) l k
+pub slots_relisted : (version : ℕ) (lists : List (Option Tid)) (l k : Links) → relisted version lists l ≡ Some k
+    → AreSlotsChanged (λ tids. lists) l k
 slots_relisted version lists l k is =
     let w = when_is (is_current l.deleted l.version version && length lists == length l.tids) (links_with l.deleted l.version lists) k is in
     let t = and_parts (is_current l.deleted l.version version) (length lists == length l.tids) w.0 in
     record { made = sym w.1; as_many = eqb-true (length lists) (length l.tids) t.1; not_deleted = is_new l.deleted l.version version t.0 }
 
-all_set : {X : Type 0} (f : X → Bool) (xs : List X) (i : ℕ) (x : X) → f x ≡ true → list_all f xs ≡ true → list_all f (slice_set xs i x) ≡ true
+all_set : {X : Type 0} (f : X → Bool) (xs : List X) (i : ℕ) (x : X) → f x ≡ true → list_all f xs ≡ true
+    → list_all f (slice_set xs i x) ≡ true
 all_set f [] i x good all = refl
 all_set f (y ∷ ys) zero x good all = and_from (f x) (list_all f ys) good (and_parts (f y) (list_all f ys) all).1
 all_set f (y ∷ ys) (suc i) x good all =
@@ -107,7 +112,9 @@ all_set f (y ∷ ys) (suc i) x good all =
     and_from (f y) (list_all f (slice_set ys i x)) parts.0 (all_set f ys i x good parts.1)
 
 -- slots that name places on the blocks that there are
-below_all : (blocks : ℕ) (tids : List (Option Tid)) → ((slot : ℕ) (to : Tid) → slice_get tids slot ≡ Some (Some to) → to.block < blocks) → list_all (is_slot_below blocks) tids ≡ true
+below_all : (blocks : ℕ) (tids : List (Option Tid))
+    → ((slot : ℕ) (to : Tid) → slice_get tids slot ≡ Some (Some to) → to.block < blocks)
+    → list_all (is_slot_below blocks) tids ≡ true
 below_all blocks [] below = refl
 below_all blocks (None ∷ tids) below = below_all blocks tids (λ slot to is. below (suc slot) to is)
 below_all blocks (Some to ∷ tids) below =
@@ -115,7 +122,8 @@ below_all blocks (Some to ∷ tids) below =
 
 module _ (pages : List Content) (g : Graph) (place at : Tid) (n : Node) (number block : ℕ) (page after : Content) (all : All IsPage pages) (s : Stands pages g) (there : slice_get pages block ≡ Some page)
     (stands : node_at g at ≡ Some n) (listed : n.list_at ≡ place) where
-  links_effect : (change : Links → Option Links) (to : List (Option Tid) → List (Option Tid)) → ((l k : Links) → change l ≡ Some k → AreSlotsChanged to l k)
+  links_effect : (change : Links → Option Links) (to : List (Option Tid) → List (Option Tid))
+      → ((l k : Links) → change l ≡ Some k → AreSlotsChanged to l k)
       → ((tids : List (Option Tid)) → list_all (is_slot_below (length pages)) tids ≡ true → list_all (is_slot_below (length pages)) (to tids) ≡ true)
       → option_map (numbered number) (at_one place.block (on_graph g.params (links_changed change g.params place.off)) block page) ≡ Some after
       → Stands (slice_set pages block after) (changed g at (λ n. record n { slots = to n.slots }))
@@ -131,7 +139,8 @@ module _ (pages : List Content) (g : Graph) (place at : Tid) (n : Node) (number 
       links_effect (linked version slot to) (λ tids. slice_set tids slot (Some to)) (slots_linked version slot to)
       (λ tids good. all_set (is_slot_below (length pages)) tids slot (Some to) (lt-ltb to.block (length pages) (omega (arith, below, s.blocks))) good)
 
-  pub relist_effect : (version : ℕ) (lists : List (Option Tid)) → ((slot : ℕ) (to : Tid) → slice_get lists slot ≡ Some (Some to) → to.block < g.blocks)
+  pub relist_effect : (version : ℕ) (lists : List (Option Tid))
+      → ((slot : ℕ) (to : Tid) → slice_get lists slot ≡ Some (Some to) → to.block < g.blocks)
       → option_map (numbered number) (at_one place.block (on_graph g.params (links_changed (relisted version lists) g.params place.off)) block page) ≡ Some after
       → Stands (slice_set pages block after) (changed g at (λ n. record n { slots = lists }))
   relist_effect version lists below is = links_effect (relisted version lists) (λ tids. lists) (slots_relisted version lists) (λ tids good. below_all (length pages) lists (λ slot to is. omega (arith, below slot to is, s.blocks))) is

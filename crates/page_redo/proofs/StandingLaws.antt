@@ -1,19 +1,21 @@
 -- What is known of pages that stand for a graph, and how others come to stand for one.
-use Rattle.std.proofs.Common.{◌≡◌, ℕ, zero, suc, ◌≤◌, ◌&&◌, ◌==◌, true, List, length, Some, sym, ap, subst, ◌∙◌, arith}
+use Rattle.std.proofs.Common.{◌≡◌, ℕ, zero, suc, ◌<◌, ◌≤◌, ◌&&◌, ◌==◌, true, List, length, Some, sym, ap, subst, ◌∙◌, arith}
 use Rattle.std.specs.Prelude.{slice_get}
 use Rattle.std.specs.List.{All}
-use Rattle.std.specs.Option.{option_and_then}
+use Rattle.std.specs.Option.{option_map, option_and_then}
 use Rattle.std.proofs.lemmas.Bool.{and_parts, eqb-true}
+use Rattle.std.proofs.lemmas.Option.{slice_get_within}
 use Rattle.vec_names.specs.declared.tid.Tid.{Tid}
 use Rattle.page_bytes.specs.Content.{Content, IsPage, item_at}
 use Rattle.vec_tuples.specs.declared.meta.Meta.{Meta}
 use Rattle.vec_tuples.specs.Spelling.{IsMeta, meta_bytes}
-use Rattle.vec_tuples.specs.Reading.{meta}
+use Rattle.vec_tuples.specs.Reading.{meta, element}
 use Rattle.vec_tuples.proofs.MetaLaws.{meta_field}
+use Rattle.vec_graph.specs.declared.node.Node.{Node}
 use Rattle.vec_graph.specs.declared.graph.Graph.{Graph}
 use Rattle.vec_graph.specs.Graph.{node_at}
 use Rattle.page_redo.specs.Items.{in_whole, meta_at, is_graph, is_meta_page}
-use Rattle.page_redo.specs.Standing.{root_on, root, of_graph, is_root, IsNodePage, KeepsRulesUnder, node_in, Stands}
+use Rattle.page_redo.specs.Standing.{root_on, root, of_graph, is_root, IsNodePage, KeepsRulesUnder, item_in, element_in, links_in, node_with, node_in, Stands}
 use Rattle.page_redo.proofs.Broken.{keeps}
 use Rattle.page_redo.proofs.Given.{then_is, if_is, when_is, item_bytes}
 use Rattle.page_redo.proofs.ItemLaws.{whole_spelled}
@@ -61,12 +63,24 @@ root_spelled pages m all r = (whole_spelled meta_field r.item m (item_bytes page
 pub root_holds : (pages : List Content) (g : Graph) (s : Stands pages g) → is_root pages s.meta ≡ true
 root_holds pages g s = subst (λ o. KeepsRulesUnder o pages 0) s.read (s.whole 0)
 
-pub node_pages : (pages : List Content) (g : Graph) (s : Stands pages g) (block : ℕ) → 1 ≤ block → IsNodePage s.meta.params pages block
+pub node_pages : (pages : List Content) (g : Graph) (s : Stands pages g) (block : ℕ) → 1 ≤ block
+    → IsNodePage s.meta.params pages block
 node_pages pages g s zero low = absurd (omega arith)
 node_pages pages g s (suc block) low = subst (λ o. KeepsRulesUnder o pages (suc block)) s.read (s.whole (suc block))
 
+-- a node stands on one of the blocks
+pub node_below : (pages : List Content) (g : Graph) (at : Tid) (n : Node) → Stands pages g → node_at g at ≡ Some n
+    → at.block < g.blocks
+node_below pages g at n s stands =
+    let p = s.meta.params in
+    let e = then_is (λ e. option_map (node_with e) (links_in p pages e.list_at)) (element_in p pages at) n (sym (s.nodes at) ∙ stands) in
+    let x = then_is (λ x. in_whole (element p x)) (item_in pages at) e.0 e.1 in
+    let c = then_is (λ (c : Content). item_at c.items at.off) (slice_get pages at.block) x.0 x.1 in
+    omega (arith, slice_get_within pages at.block c.0 c.1, s.blocks)
+
 -- pages come to stand for a graph
-pub stands_from : (pages : List Content) (g : Graph) (m : Meta) → root pages ≡ Some m → is_root pages m ≡ true → ((block : ℕ) → 1 ≤ block → IsNodePage m.params pages block)
+pub stands_from : (pages : List Content) (g : Graph) (m : Meta) → root pages ≡ Some m → is_root pages m ≡ true
+    → ((block : ℕ) → 1 ≤ block → IsNodePage m.params pages block)
     → g.params ≡ m.params → g.entry ≡ m.entry → g.level ≡ m.level → g.hint ≡ m.hint → g.blocks ≡ length pages → ((at : Tid) → node_at g at ≡ node_in m.params pages at) → Stands pages g
 stands_from pages g m read good node params entry level hint blocks nodes = record {
   whole = λ block. keeps pages m (sym read) good block (node block);

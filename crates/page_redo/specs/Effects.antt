@@ -7,8 +7,8 @@ use Rattle.vec_graph.specs.Effect.{effect}
 use Rattle.page_redo.specs.Redo.{redone}
 use Rattle.page_redo.specs.Standing.{Stands}
 
--- Where the pages stand for the graph, and the event fits the page of a block, the pages with the page that redo makes of
--- that one stand for the graph that the event makes.
+-- Where pages stand for the graph, and the event fits the page of a block, these pages with the one that redo makes of it
+-- stand for the graph after the event.
 abbrev pub RedoIsEffect : List Content → Graph → Event → Type 0
 RedoIsEffect pages g event =
     (wrap number block : ℕ) (page after : Content) → All IsPage pages → Stands pages g → slice_get pages block ≡ Some page
