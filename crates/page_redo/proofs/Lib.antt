@@ -13,3 +13,14 @@ pub mod PagePlaces
 pub mod FillingLaws
 pub mod SameGraph
 pub mod Broken
+pub mod Given
+pub mod PageSets
+pub mod Pointed
+pub mod KindsApart
+pub mod StandingLaws
+pub mod OneItem
+pub mod ElementEffect
+pub mod HeadEffect
+pub mod ListEffect
+pub mod SlotEffect
+pub mod MetaEffect

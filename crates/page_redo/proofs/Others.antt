@@ -22,7 +22,7 @@ use Rattle.page_redo.specs.Redo.{at_one, at_two, changed, named, AreEntriesDropp
 
 -- ---- items of a list that is changed
 
-pub set_apart : (items : List (List ℕ)) (i j : ℕ) (x : List ℕ) → (i ≡ j → ⊥) → slice_get (slice_set items i x) j ≡ slice_get items j
+pub set_apart : {X : Type 0} (items : List X) (i j : ℕ) (x : X) → (i ≡ j → ⊥) → slice_get (slice_set items i x) j ≡ slice_get items j
 set_apart [] i j x apart = refl
 set_apart (y ∷ ys) zero zero x apart = absurd (apart refl)
 set_apart (y ∷ ys) zero (suc j) x apart = refl

@@ -30,7 +30,7 @@ may off go x c = may_over (item_at c.items off) off go x c
 
 -- ---- what the page is then
 
-set_here : (items : List (List ℕ)) (i : ℕ) (old x : List ℕ) → slice_get items i ≡ Some old → slice_get (slice_set items i x) i ≡ Some x
+pub set_here : {X : Type 0} (items : List X) (i : ℕ) (old x : X) → slice_get items i ≡ Some old → slice_get (slice_set items i x) i ≡ Some x
 set_here [] i old x is = absurd cc
 set_here (y ∷ ys) zero old x is = refl
 set_here (y ∷ ys) (suc i) old x is = set_here ys i old x is

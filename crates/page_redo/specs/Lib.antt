@@ -4,3 +4,4 @@ pub mod Redo
 pub mod Standing
 pub mod Naming
 pub mod Filling
+pub mod Effects

@@ -1,13 +1,17 @@
 //! Pages that stand for a graph, and pages that break each of the rules.
 
 use crate::tests::{ELEMENT, GRAPH, META, SLOTS, fits, place, put, row};
-use crate::{GraphFault, graph_of};
+use crate::{
+    GraphFault, graph_of, law_drop, law_elsewhere, law_entry, law_hint, law_join, law_link,
+    law_others, law_relist, law_standing,
+};
 use bit_code::read_bits;
 use page_bytes::{Page, PageKind};
 use std::alloc::Global;
 use std::test::*;
 use vec_event::Event;
 use vec_graph::Node;
+use vec_names::Tid;
 
 /// The parts of a small index: the meta tuple with the entry 1/1, the element 1/1 with its list 1/2, and the element 2/1
 /// with its list 1/3, whose first slot names 2/1.
@@ -223,5 +227,49 @@ fn pages_that_break_a_rule(rt: HostRuntime) -> Result<(), Fail> {
     // There is no block 0.
     let none: [Page; 0] = [];
     assert!(rt; graph_of(alloc, &none).err() == Some(GraphFault::Bad { block: 0 }));
+    Ok(())
+}
+
+#[test]
+fn redo_is_the_effect_on_the_graph(rt: HostRuntime) -> Result<(), Fail> {
+    let alloc = rt.alloc();
+    let mut pages = pages_of(KINDS, &small_index());
+    let to = Tid { block: 2, off: 1 };
+    let link = Event::Link {
+        at: place(1),
+        list_at: place(2),
+        version: 1,
+        slot: 1,
+        to,
+    };
+    let join = Event::Join {
+        at: place(1),
+        version: 1,
+        id: row(2),
+    };
+    assert!(rt; fits(&link, GRAPH, 255, 1, &mut pages[1]));
+    assert!(rt; fits(&join, GRAPH, 255, 1, &mut pages[1]));
+    assert!(rt; fits(&Event::Hint { block: 2 }, GRAPH, 255, 0, &mut pages[0]));
+    let graph = graph_of(alloc, &pages)?;
+    assert!(rt; graph.hint == 2 && graph.entry == Some(place(1)) && graph.nodes.len() == 2);
+    let Some(node) = graph.nodes.get(place(1)) else {
+        panic!(rt; "no node stands at 1/1")
+    };
+    assert!(rt; node.ids.as_slice() == [row(1), row(2)].as_slice());
+    assert!(rt; node.slots.as_slice() == [None, Some(to), None, None].as_slice());
+    Ok(())
+}
+
+#[test]
+fn laws_are_called(_rt: HostRuntime) -> Result<(), Fail> {
+    law_elsewhere();
+    law_others();
+    law_standing();
+    law_hint();
+    law_entry();
+    law_link();
+    law_relist();
+    law_join();
+    law_drop();
     Ok(())
 }

@@ -11,6 +11,7 @@
 mod blocks;
 mod both;
 mod changes;
+mod effects;
 mod events;
 mod fault;
 mod graph;
@@ -27,6 +28,7 @@ mod put;
 mod rules;
 mod standing;
 
+pub use effects::{law_drop, law_entry, law_hint, law_join, law_link, law_relist};
 pub use events::redo;
 pub use fault::RedoFault;
 pub use graph_fault::GraphFault;

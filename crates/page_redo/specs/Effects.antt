@@ -1,0 +1,15 @@
+-- Redo of an event on the pages that stand for a graph.
+use Rattle.std.specs.Prelude.{◌≡◌, ℕ, List, slice_get, slice_set, Some, All}
+use Rattle.vec_event.specs.declared.event.Event.{Event}
+use Rattle.page_bytes.specs.Content.{Content, IsPage}
+use Rattle.vec_graph.specs.declared.graph.Graph.{Graph}
+use Rattle.vec_graph.specs.Effect.{effect}
+use Rattle.page_redo.specs.Redo.{redone}
+use Rattle.page_redo.specs.Standing.{Stands}
+
+-- Where pages stand for the graph, and the event fits the page of a block, these pages with the one that redo makes of it
+-- stand for the graph after the event.
+abbrev pub RedoIsEffect : List Content → Graph → Event → Type 0
+RedoIsEffect pages g event =
+    (wrap number block : ℕ) (page after : Content) → All IsPage pages → Stands pages g → slice_get pages block ≡ Some page
+    → redone event g.params wrap number block page ≡ Some after → Stands (slice_set pages block after) (effect wrap event g)
