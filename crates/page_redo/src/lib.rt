@@ -29,7 +29,7 @@ mod put;
 mod rules;
 mod standing;
 
-pub use effects::{law_drop, law_entry, law_hint, law_join, law_link, law_relist};
+pub use effects::{law_drop, law_entry, law_hint, law_join, law_link, law_mark, law_relist};
 pub use events::redo;
 pub use fault::RedoFault;
 pub use graph_fault::GraphFault;
