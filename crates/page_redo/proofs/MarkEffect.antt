@@ -9,6 +9,7 @@ use Rattle.std.proofs.lemmas.Option.{slice_get_within, slice_get-get_or}
 use Rattle.byte_fields.proofs.EachField.{some_is}
 use Rattle.vec_names.specs.declared.tid.Tid.{Tid}
 use Rattle.vec_names.specs.declared.params.Params.{Params}
+use Rattle.vec_names.specs.Params.{IsInRange}
 use Rattle.vec_event.specs.declared.event.Event.TheVariants.{Mark}
 use Rattle.page_bytes.specs.Content.{Content, IsPage, item_at}
 use Rattle.vec_tuples.specs.declared.element.Element.{Element}
@@ -116,7 +117,8 @@ is_marked : (p : Params) (wrap version off : ℕ) (c d : Content) → on_graph p
     → IsMarked p wrap version off c d
 is_marked p wrap version off c d is =
     let on = if_is (is_graph p.kind && is_graph_page c.kind) (head_changed (marked wrap version) p off c) d is in
-    let a = then_is (λ e. option_map (λ h. with_item c off (element_bytes (with_head h e))) (marked wrap version (head_of_element e))) (element_at p c off) d on.1 in
+    let a = then_is (λ e. option_map (λ h. with_item c off (element_bytes (with_head h e))) (marked wrap version (head_of_element e)))
+    (element_at p c off) d on.1 in
     let e = a.0 in
     let b = map_is (λ h. with_item c off (element_bytes (with_head h e))) (marked wrap version (head_of_element e)) d a.2 in
     let w = when_is (is_current e.deleted e.version version) (marked_head wrap e) b.0 b.1 in
@@ -145,7 +147,8 @@ is_emptied : (p : Params) (wrap version off : ℕ) (c d : Content) → on_graph 
     → IsEmptied p wrap version off c d
 is_emptied p wrap version off c d is =
     let on = if_is (is_graph p.kind && is_graph_page c.kind) (links_changed (emptied wrap version) p off c) d is in
-    let a = then_is (λ l. option_map (λ changed. with_item c off (links_bytes changed)) (emptied wrap version l)) (links_at p c off) d on.1 in
+    let a = then_is (λ l. option_map (λ changed. with_item c off (links_bytes changed)) (emptied wrap version l))
+    (links_at p c off) d on.1 in
     let l = a.0 in
     let b = map_is (λ changed. with_item c off (links_bytes changed)) (emptied wrap version l) d a.2 in
     let w = when_is (is_current l.deleted l.version version) (emptied_list wrap l) b.0 b.1 in
@@ -195,18 +198,21 @@ is_neither a b block first second (suc zero, h, is) = second is
 is_neither a b block first second (suc (suc i), h, is) = absurd (omega (arith, h))
 
 -- two pages of a list are others, and all else stays
-two_set : (pages after : List Content) (a b : ℕ) (c d e f : Content) → slice_get pages a ≡ Some c → slice_get (slice_set pages a e) b ≡ Some d
-    → ((a ≡ b → ⊥) → slice_get after a ≡ Some e) → slice_get after b ≡ Some f
+two_set : (pages after : List Content) (a b : ℕ) (c d e f : Content) → slice_get pages a ≡ Some c
+    → slice_get (slice_set pages a e) b ≡ Some d → ((a ≡ b → ⊥) → slice_get after a ≡ Some e) → slice_get after b ≡ Some f
     → ((block : ℕ) → (a ≡ block → ⊥) → (b ≡ block → ⊥) → slice_get after block ≡ slice_get pages block)
     → after ≡ slice_set (slice_set pages a e) b f
-two_set pages after a b c d e f there list_there first second others = same_pages after (slice_set (slice_set pages a e) b f) (λ i. at_block i)
+two_set pages after a b c d e f there list_there first second others =
+    same_pages after (slice_set (slice_set pages a e) b f) at_block
   where
     at_block : (i : ℕ) → slice_get after i ≡ slice_get (slice_set (slice_set pages a e) b f) i
     at_block i = elim (cases_eq b i) as (λ _. slice_get after i ≡ slice_get (slice_set (slice_set pages a e) b f) i) [
-      | inl is ↦ ap (slice_get after) (sym is) ∙ second ∙ sym (set_here (slice_set pages a e) b d f list_there) ∙ ap (slice_get (slice_set (slice_set pages a e) b f)) is
+      | inl is ↦ ap (slice_get after) (sym is) ∙ second ∙ sym (set_here (slice_set pages a e) b d f list_there)
+          ∙ ap (slice_get (slice_set (slice_set pages a e) b f)) is
       | inr not_b ↦ elim (cases_eq a i) as (λ _. slice_get after i ≡ slice_get (slice_set (slice_set pages a e) b f) i) [
         | inl is ↦
-            ap (slice_get after) (sym is) ∙ first (λ same. not_b (sym same ∙ is)) ∙ sym (set_here pages a c e there) ∙ ap (slice_get (slice_set pages a e)) is
+            ap (slice_get after) (sym is) ∙ first (λ same. not_b (sym same ∙ is)) ∙ sym (set_here pages a c e there)
+            ∙ ap (slice_get (slice_set pages a e)) is
             ∙ sym (set_apart (slice_set pages a e) b i f not_b)
         | inr not_a ↦ others i not_a not_b ∙ sym (set_apart pages a i e not_a) ∙ sym (set_apart (slice_set pages a e) b i f not_b)
       ]
@@ -216,10 +222,12 @@ two_same : (a b block : ℕ) (first second : Role) (c : Content) → a ≡ block
     → at_two a first b second block c ≡ option_and_then second (first c)
 two_same a b block first second c is also = rw (eq-eqb a block is, eq-eqb b block also) refl
 
-two_first : (a b block : ℕ) (first second : Role) (c : Content) → a ≡ block → (b ≡ block → ⊥) → at_two a first b second block c ≡ first c
+two_first : (a b block : ℕ) (first second : Role) (c : Content) → a ≡ block → (b ≡ block → ⊥)
+    → at_two a first b second block c ≡ first c
 two_first a b block first second c is other = rw (eq-eqb a block is, ne_eqb b block other) refl
 
-two_second : (a b block : ℕ) (first second : Role) (c : Content) → (a ≡ block → ⊥) → b ≡ block → at_two a first b second block c ≡ second c
+two_second : (a b block : ℕ) (first second : Role) (c : Content) → (a ≡ block → ⊥) → b ≡ block
+    → at_two a first b second block c ≡ second c
 two_second a b block first second c other is = rw (ne_eqb a block other, eq-eqb b block is) refl
 
 -- ---- redo
@@ -228,6 +236,9 @@ module _ (pages : List Content) (g : Graph) (at list_at : Tid) (version wrap num
     (stands : node_at g at ≡ Some n) (listed : n.list_at ≡ list_at) where
   abbrev p : Params
   p = s.meta.params
+
+  range : IsInRange p
+  range = params_in_range pages g s all
 
   there : (e : Element) × (element_in p pages at ≡ Some e) × (option_map (made_of e) (links_in p pages e.list_at) ≡ Some n)
   there = then_is (λ e. option_map (made_of e) (links_in p pages e.list_at)) (element_in p pages at) n (sym (s.nodes at) ∙ stands)
@@ -252,7 +263,8 @@ module _ (pages : List Content) (g : Graph) (at list_at : Tid) (version wrap num
 
   -- one role after the other, whichever page the second finds
   module _ (c m b w : Content) (page_is : slice_get pages at.block ≡ Some c) (first : IsMarked p wrap version at.off c m)
-      (then_there : slice_get (slice_set pages at.block (numbered number m)) list_at.block ≡ Some b) (second : IsEmptied p wrap version list_at.off b w) where
+      (then_there : slice_get (slice_set pages at.block (numbered number m)) list_at.block ≡ Some b)
+      (second : IsEmptied p wrap version list_at.off b w) where
     abbrev mid : List Content
     mid = slice_set pages at.block (numbered number m)
 
@@ -263,32 +275,35 @@ module _ (pages : List Content) (g : Graph) (at list_at : Tid) (version wrap num
     k = emptied_list wrap second.l
 
     one : IsChangedAt at first.item (element_bytes f) pages mid
-    one = subst (λ (z : Content). IsChangedAt at first.item (element_bytes f) pages (slice_set pages at.block (numbered number z))) first.made
-        (changed_at pages at c number first.item (element_bytes f) page_is first.is)
+    one = subst (λ (z : Content). IsChangedAt at first.item (element_bytes f) pages (slice_set pages at.block (numbered number z)))
+        first.made (changed_at pages at c number first.item (element_bytes f) page_is first.is)
 
     two : IsChangedAt list_at second.item (links_bytes k) mid (slice_set mid list_at.block (numbered number w))
-    two = subst (λ (z : Content). IsChangedAt list_at second.item (links_bytes k) mid (slice_set mid list_at.block (numbered number z))) second.made
-        (changed_at mid list_at b number second.item (links_bytes k) then_there second.is)
+    two = subst (λ (z : Content). IsChangedAt list_at second.item (links_bytes k) mid (slice_set mid list_at.block (numbered number z)))
+        second.made (changed_at mid list_at b number second.item (links_bytes k) then_there second.is)
 
     apart : at.block ≡ 0 → ⊥
     apart = not_root pages g at.block c s page_is first.kind
 
     list_apart : list_at.block ≡ 0 → ⊥
-    list_apart zero_is = not_root pages g list_at.block b s (sym (one.elsewhere list_at.block (λ same. apart (same ∙ zero_is))) ∙ then_there) second.kind zero_is
+    list_apart zero_is = not_root pages g list_at.block b s
+        (sym (one.elsewhere list_at.block (λ same. apart (same ∙ zero_is))) ∙ then_there) second.kind zero_is
 
     spelled : IsElement p first.e × (first.item ≡ element_bytes first.e)
-    spelled = whole_spelled (element_field p (params_in_range pages g s all)) first.item first.e (item_bytes pages at.block at.off c first.item all page_is first.is) first.reads
+    spelled = whole_spelled (element_field p range) first.item first.e
+        (item_bytes pages at.block at.off c first.item all page_is first.is) first.reads
 
     other_place : at ≡ list_at → ⊥
     other_place same =
-        let one_item : second.item ≡ element_bytes f = some_is second.item (element_bytes f) (sym two.was ∙ ap (item_in mid) (sym same) ∙ one.now) in
+        let one_item : second.item ≡ element_bytes f = some_is second.item (element_bytes f)
+        (sym two.was ∙ ap (item_in mid) (sym same) ∙ one.now) in
         none_or_some second.l (sym (no_list p f) ∙ ap (λ x. in_whole (links p x)) (sym one_item) ∙ second.reads)
 
     list_before : (d : Content) × (slice_get pages list_at.block ≡ Some d) × (item_at d.items list_at.off ≡ Some second.item)
     list_before = then_is (λ (c : Content). item_at c.items list_at.off) (slice_get pages list_at.block) second.item (sym (one.apart list_at other_place) ∙ two.was)
 
     list_spelled : IsLinks p second.l × (second.item ≡ links_bytes second.l)
-    list_spelled = whole_spelled (links_field p (params_in_range pages g s all)) second.item second.l
+    list_spelled = whole_spelled (links_field p range) second.item second.l
         (item_bytes pages list_at.block list_at.off list_before.0 second.item all list_before.1 list_before.2) second.reads
 
     same_element : there.0 ≡ first.e
@@ -300,11 +315,11 @@ module _ (pages : List Content) (g : Graph) (at list_at : Tid) (version wrap num
     are : AreBoth p list_at first.item (element_bytes f) second.item (links_bytes k) first.e f second.l k
     are = record {
       was = first.reads;
-      now = whole_read (element_field p (params_in_range pages g s all)) (element_bytes f) f (marked_fits p wrap first.e spelled.0) refl;
+      now = whole_read (element_field p range) (element_bytes f) f (marked_fits p wrap first.e spelled.0) refl;
       no_list = ap (λ x. in_whole (links p x)) spelled.1 ∙ no_list p first.e;
       no_list_now = no_list p f;
       list_was = second.reads;
-      list_now = whole_read (links_field p (params_in_range pages g s all)) (links_bytes k) k (emptied_fits p wrap second.l list_spelled.0) refl;
+      list_now = whole_read (links_field p range) (links_bytes k) k (emptied_fits p wrap second.l list_spelled.0) refl;
       no_element = ap (λ x. in_whole (element p x)) list_spelled.1 ∙ list_is_no_element p second.l;
       no_element_now = list_is_no_element p k;
       level = refl;
@@ -316,9 +331,10 @@ module _ (pages : List Content) (g : Graph) (at list_at : Tid) (version wrap num
     }
 
     turned : Stands (slice_set mid list_at.block (numbered number w)) (changed g at (node_marked wrap))
-    turned = both_effect pages mid (slice_set mid list_at.block (numbered number w)) g at list_at first.item (element_bytes f) second.item (links_bytes k) first.e f second.l k s
-        one two apart list_apart (low_from at.block apart) (low_from list_at.block list_apart) are (λ good. none_below (length pages) (length second.l.tids))
-        (node_marked wrap) refl
+    turned = both_effect pages mid (slice_set mid list_at.block (numbered number w)) g at list_at
+        first.item (element_bytes f) second.item (links_bytes k) first.e f second.l k s
+        one two apart list_apart (low_from at.block apart) (low_from list_at.block list_apart) are
+        (λ good. none_below (length pages) (length second.l.tids)) (node_marked wrap) refl
 
   module _ (after : List Content) (are : AreRedone p wrap number (Mark at list_at version) pages after) where
     abbrev first : Role
@@ -333,7 +349,8 @@ module _ (pages : List Content) (g : Graph) (at list_at : Tid) (version wrap num
     made_at block c touched there =
         let within : block < length after = omega (arith, slice_get_within pages block c there, are.count) in
         let got : slice_get after block ≡ Some (get_or after block c) = slice_get-get_or after block c within in
-        let made = map_is (numbered number) (at_two at.block first list_at.block second block c) (get_or after block c) (sym (are.there block c touched there) ∙ got) in
+        let made = map_is (numbered number) (at_two at.block first list_at.block second block c) (get_or after block c)
+        (sym (are.there block c touched there) ∙ got) in
         (made.0, made.1, got ∙ ap (λ (d : Content). Some d) (sym made.2))
 
     others_stay : (block : ℕ) → (at.block ≡ block → ⊥) → (list_at.block ≡ block → ⊥) → slice_get after block ≡ slice_get pages block
@@ -350,7 +367,8 @@ module _ (pages : List Content) (g : Graph) (at list_at : Tid) (version wrap num
         subst (λ (z : List Content). Stands z (changed g at (node_marked wrap)))
         (sym (two_set pages after at.block list_at.block page.0 (numbered number m) (numbered number m) (numbered number made.0) page.1 here
         (λ other. absurd (other same)) (ap (slice_get after) (sym same) ∙ made.2) others_stay))
-        (turned page.0 m (numbered number m) (numbered number made.0) page.1 (is_marked p wrap version at.off page.0 m pair.1) here (renumbered p wrap version list_at.off number m made.0 emptied_is))
+        (turned page.0 m (numbered number m) (numbered number made.0) page.1 (is_marked p wrap version at.off page.0 m pair.1) here
+        (renumbered p wrap version list_at.off number m made.0 emptied_is))
 
     on_two_pages : (at.block ≡ list_at.block → ⊥) → Stands after (changed g at (node_marked wrap))
     on_two_pages other =
@@ -363,7 +381,8 @@ module _ (pages : List Content) (g : Graph) (at list_at : Tid) (version wrap num
         subst (λ (z : List Content). Stands z (changed g at (node_marked wrap)))
         (sym (two_set pages after at.block list_at.block page.0 list_page.0 (numbered number made.0) (numbered number list_made.0) page.1 here
         (λ e. made.2) list_made.2 others_stay))
-        (turned page.0 made.0 list_page.0 list_made.0 page.1 (is_marked p wrap version at.off page.0 made.0 first_is) here (is_emptied p wrap version list_at.off list_page.0 list_made.0 second_is))
+        (turned page.0 made.0 list_page.0 list_made.0 page.1 (is_marked p wrap version at.off page.0 made.0 first_is) here
+        (is_emptied p wrap version list_at.off list_page.0 list_made.0 second_is))
 
     mark_here : Stands after (changed g at (node_marked wrap))
     mark_here = elim (cases_eq at.block list_at.block) as (λ _. Stands after (changed g at (node_marked wrap))) [

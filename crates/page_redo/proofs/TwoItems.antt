@@ -27,8 +27,8 @@ use Rattle.page_redo.proofs.StandingLaws.{root_holds, node_pages, stands_from}
 use Rattle.page_redo.proofs.ElementEffect.{element_good}
 use Rattle.page_redo.proofs.ListEffect.{list_good, or_second, pointer_names}
 
--- The items at a place were one element and are another, those at its list's place one neighbour tuple and another. The element
--- has its level and its list pointer still, and the two agree.
+-- The items at two places: an element became another one, and its neighbour tuple became another one. The element keeps its
+-- level and its list pointer, the list keeps its number of slots, and the two agree.
 pub record AreBoth (p : Params) (list_at : Tid) (x y u v : List ℕ) (e f : Element) (l k : Links) : Type 0 where
   pub was : in_whole (element p x) ≡ Some e
   pub now : in_whole (element p y) ≡ Some f
@@ -62,15 +62,19 @@ none_or_some v is = absurd cc
 list_fits : (p : Params) (h was : ElementHead) (l k : Links) → h.level ≡ was.level → length k.tids ≡ length l.tids
     → k.version ≡ h.version → k.deleted ≡ h.deleted → is_list_of p was (Some l) ≡ true → is_list_of p h (Some k) ≡ true
 list_fits p h was l k level count version deleted good =
-    let before = and_parts (length l.tids == slots_of_level p.m was.level) (l.version == was.version && beq l.deleted was.deleted) good in
+    let before = and_parts (length l.tids == slots_of_level p.m was.level)
+    (l.version == was.version && beq l.deleted was.deleted) good in
     let long : (length k.tids == slots_of_level p.m h.level) ≡ true = ap₂ (λ n level. n == slots_of_level p.m level) count level ∙ before.0 in
-    let alike = and_from (k.version == h.version) (beq k.deleted h.deleted) (eq-eqb k.version h.version version) (same_flag k.deleted h.deleted deleted) in
+    let alike = and_from (k.version == h.version) (beq k.deleted h.deleted)
+    (eq-eqb k.version h.version version) (same_flag k.deleted h.deleted deleted) in
     and_from (length k.tids == slots_of_level p.m h.level) (k.version == h.version && beq k.deleted h.deleted) long alike
 
-module _ (pages mid after : List Content) (g : Graph) (at list_at : Tid) (x y u v : List ℕ) (e f : Element) (l k : Links) (s : Stands pages g)
-    (one : IsChangedAt at x y pages mid) (two : IsChangedAt list_at u v mid after) (apart : at.block ≡ 0 → ⊥) (list_apart : list_at.block ≡ 0 → ⊥)
+module _ (pages mid after : List Content) (g : Graph) (at list_at : Tid) (x y u v : List ℕ) (e f : Element) (l k : Links)
+    (s : Stands pages g) (one : IsChangedAt at x y pages mid) (two : IsChangedAt list_at u v mid after)
+    (apart : at.block ≡ 0 → ⊥) (list_apart : list_at.block ≡ 0 → ⊥)
     (low : 1 ≤ at.block) (list_low : 1 ≤ list_at.block) (are : AreBoth s.meta.params list_at x y u v e f l k)
-    (below : list_all (is_slot_below (length pages)) l.tids ≡ true → list_all (is_slot_below (length pages)) k.tids ≡ true) where
+    (below : list_all (is_slot_below (length pages)) l.tids ≡ true
+    → list_all (is_slot_below (length pages)) k.tids ≡ true) where
   abbrev p : Params
   p = s.meta.params
 
@@ -130,10 +134,13 @@ module _ (pages mid after : List Content) (g : Graph) (at list_at : Tid) (x y u 
   good_parts = and_parts (times_in list_at (pointers p pages) == 1) (list_all (is_slot_below (length pages)) l.tids) good
 
   list_still_good : is_list p after list_at (Some k) ≡ true
-  list_still_good = same_list p pages after list_at (Some k) count named_stays ∙ and_from (times_in list_at (pointers p pages) == 1) (list_all (is_slot_below (length pages)) k.tids) good_parts.0 (below good_parts.1)
+  list_still_good = same_list p pages after list_at (Some k) count named_stays
+      ∙ and_from (times_in list_at (pointers p pages) == 1) (list_all (is_slot_below (length pages)) k.tids)
+      good_parts.0 (below good_parts.1)
 
   fitted : is_list_of p (head_of_element e) (Some l) ≡ true
-  fitted = ap (is_list_of p (head_of_element e)) (sym list_was ∙ ap (links_in p pages) (sym are.points)) ∙ element_good p pages at x e (node_pages pages g s at.block low) one.was are.was are.no_list
+  fitted = ap (is_list_of p (head_of_element e)) (sym list_was ∙ ap (links_in p pages) (sym are.points))
+      ∙ element_good p pages at x e (node_pages pages g s at.block low) one.was are.was are.no_list
 
   element_still_good : is_element p after (head_in p after at) ≡ true
   element_still_good =
@@ -147,10 +154,12 @@ module _ (pages mid after : List Content) (g : Graph) (at list_at : Tid) (x y u 
   only : (q : Tid) (d : Element) → element_in p pages q ≡ Some d → d.list_at ≡ list_at → at ≡ q
   only q d is also =
       let z = then_is (λ x. in_whole (element p x)) (item_in pages q) d is in
-      named_once p pages list_at at q x z.0 (eqb-true (times_in list_at (pointers p pages)) 1 good_parts.0) one.was z.1
+      named_once p pages list_at at q x z.0 (eqb-true (times_in list_at (pointers p pages)) 1 good_parts.0)
+      one.was z.1
       (pointer_names p x e list_at are.was are.points) (pointer_names p z.0 d list_at z.2 also)
 
-  other_list : (q : Tid) (d : Element) → (at ≡ q → ⊥) → element_in p pages q ≡ Some d → links_in p after d.list_at ≡ links_in p pages d.list_at
+  other_list : (q : Tid) (d : Element) → (at ≡ q → ⊥) → element_in p pages q ≡ Some d
+      → links_in p after d.list_at ≡ links_in p pages d.list_at
   other_list q d other is = list_apart_stays d.list_at (λ same. other (only q d is (sym same)))
 
   other_element : (q : Tid) → (at ≡ q → ⊥) → (o : Option Element) → element_in p pages q ≡ o
@@ -170,19 +179,28 @@ module _ (pages mid after : List Content) (g : Graph) (at list_at : Tid) (x y u 
       (or_first (is_element p after (head_in p after at)) (is_list p after at (links_in p after at)) element_still_good))
       (λ other. by_place (is_node_item p after q ≡ true) q list_at
       (λ here. subst (λ t. is_node_item p after t ≡ true) here
-      (or_second (is_element p after (head_in p after list_at)) (is_list p after list_at (links_in p after list_at)) (ap (is_list p after list_at) list_now ∙ list_still_good)))
+      (or_second (is_element p after (head_in p after list_at)) (is_list p after list_at (links_in p after list_at))
+      (ap (is_list p after list_at) list_now ∙ list_still_good)))
       (λ apart. ap₂ (λ a b. a || b) (elements_stay q other) (lists_stay q apart) ∙ was))
 
   levels_stay : (q : Tid) (level : ℕ) → is_of_level level (head_in p after q) ≡ is_of_level level (head_in p pages q)
   levels_stay q level = by_place (is_of_level level (head_in p after q) ≡ is_of_level level (head_in p pages q)) q at
-      (λ here. ap (λ t. is_of_level level (head_in p after t)) (sym here) ∙ ap (λ o. is_of_level level (option_map head_of_element o)) element_now ∙ ap (λ n. n == level) are.level
-      ∙ sym (ap (λ o. is_of_level level (option_map head_of_element o)) element_was) ∙ ap (λ t. is_of_level level (head_in p pages t)) here)
+      (λ here. ap (λ t. is_of_level level (head_in p after t)) (sym here)
+      ∙ ap (λ o. is_of_level level (option_map head_of_element o)) element_now ∙ ap (λ n. n == level) are.level
+      ∙ sym (ap (λ o. is_of_level level (option_map head_of_element o)) element_was)
+      ∙ ap (λ t. is_of_level level (head_in p pages t)) here)
       (λ other. ap (λ o. is_of_level level (option_map head_of_element o)) (element_apart q other))
 
   node_page_stays : (block : ℕ) → IsNodePage p pages block → IsNodePage p after block
   node_page_stays block whole = record {
-    kind = λ d is. let b = two.kinds block d is in let a = one.kinds block b.0 b.1 in ap is_graph_page (b.2 ∙ a.2) ∙ whole.kind a.0 a.1;
-    items = λ q z same is. let b = stood two q z is in let a = stood one q b.0 b.1 in items_stay q (whole.items q a.0 same a.1);
+    kind = λ d is.
+        let b = two.kinds block d is in
+        let a = one.kinds block b.0 b.1 in
+        ap is_graph_page (b.2 ∙ a.2) ∙ whole.kind a.0 a.1;
+    items = λ q z same is.
+        let b = stood two q z is in
+        let a = stood one q b.0 b.1 in
+        items_stay q (whole.items q a.0 same a.1);
   }
 
   -- ---- the graph
@@ -196,21 +214,25 @@ module _ (pages mid after : List Content) (g : Graph) (at list_at : Tid) (x y u 
       ∙ ap (option_map (made_of f)) (ap (links_in p after) are.points_now ∙ list_now)
 
   same_node : (q : Tid) → (at ≡ q → ⊥) → (o : Option Element) → element_in p pages q ≡ o
-      → option_and_then (λ e. option_map (made_of e) (links_in p after e.list_at)) o ≡ option_and_then (λ e. option_map (made_of e) (links_in p pages e.list_at)) o
+      → option_and_then (λ e. option_map (made_of e) (links_in p after e.list_at)) o
+      ≡ option_and_then (λ e. option_map (made_of e) (links_in p pages e.list_at)) o
   same_node q other None is = refl
   same_node q other (Some d) is = ap (option_map (made_of d)) (other_list q d other is)
 
   node_apart : (q : Tid) → (at ≡ q → ⊥) → node_in p after q ≡ node_in p pages q
-  node_apart q other = ap (λ o. option_and_then (λ e. option_map (made_of e) (links_in p after e.list_at)) o) (element_apart q other) ∙ same_node q other (element_in p pages q) refl
+  node_apart q other = ap (λ o. option_and_then (λ e. option_map (made_of e) (links_in p after e.list_at)) o) (element_apart q other)
+      ∙ same_node q other (element_in p pages q) refl
 
   nodes_are : (q : Tid) → get (insert g.nodes at (made_of f k)) q ≡ node_in p after q
   nodes_are q = by_place (get (insert g.nodes at (made_of f k)) q ≡ node_in p after q) q at
-      (λ here. ap (λ t. get (insert g.nodes at (made_of f k)) t) (sym here) ∙ get_here g.nodes at (made_of f k) ∙ sym node_now ∙ ap (node_in p after) here)
+      (λ here. ap (λ t. get (insert g.nodes at (made_of f k)) t) (sym here)
+      ∙ get_here g.nodes at (made_of f k) ∙ sym node_now ∙ ap (node_in p after) here)
       (λ other. get_apart g.nodes at q (made_of f k) other ∙ s.nodes q ∙ sym (node_apart q other))
 
   root_good : is_root after s.meta ≡ true
   root_good =
-      let same : is_root after s.meta ≡ is_root pages s.meta = rw (count, same_entry p pages after s.meta.entry s.meta.level levels_stay) refl in
+      let same : is_root after s.meta ≡ is_root pages s.meta =
+      rw (count, same_entry p pages after s.meta.entry s.meta.level levels_stay) refl in
       same ∙ root_holds pages g s
 
   stands_now : Stands after (with_node g at (made_of f k))

@@ -15,7 +15,7 @@ RedoIsEffect pages g event =
     (wrap number block : ℕ) (page after : Content) → All IsPage pages → Stands pages g → slice_get pages block ≡ Some page
     → redone event g.params wrap number block page ≡ Some after → Stands (slice_set pages block after) (effect wrap event g)
 
--- Each page of a block that the event touches became what redo makes of it, and each other page stayed.
+-- There are as many pages. Each one whose block the event touches became what redo makes of it, and each other one stayed.
 pub record AreRedone (params : Params) (wrap number : ℕ) (event : Event) (pages after : List Content) : Type 0 where
   pub count : length after ≡ length pages
   pub there : (block : ℕ) (page : Content) → Contains (touched event params) block → slice_get pages block ≡ Some page

@@ -53,10 +53,11 @@ pub fn law_drop()
     ensures { (pages : List Content) (g : Graph) (at : Place) (version gone : ℕ) → RedoIsEffect pages g (Drop at version gone) }
 {}
 
-/// A law, and no work. Redo of a node's deletion, on the page of its element and on that of its neighbour tuple, or on the one page
-/// of both, is that event's effect on the graph, where the neighbour tuple is that of the node.
+/// A law, and no work. Redo of a node's deletion, on the page of its element and on that of its neighbour tuple, which may be one
+/// page, is that event's effect on the graph, where the neighbour tuple is that of the node.
 pub fn law_mark()
-    ensures { (pages after : List Content) (g : Graph) (at list_at : Place) (version wrap number : ℕ) (n : Node) → All IsPage pages → Stands pages g
-        → node_at g at ≡ Some n → n.list_at ≡ list_at → AreRedone g.params wrap number (Mark at list_at version) pages after
+    ensures { (pages after : List Content) (g : Graph) (at list_at : Place) (version wrap number : ℕ) (n : Node)
+        → All IsPage pages → Stands pages g → node_at g at ≡ Some n → n.list_at ≡ list_at
+        → AreRedone g.params wrap number (Mark at list_at version) pages after
         → Stands after (effect wrap (Mark at list_at version) g) }
 {}
