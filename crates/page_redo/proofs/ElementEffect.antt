@@ -39,18 +39,25 @@ first_of_two : (a b : Bool) → (a || b) ≡ true → b ≡ false → a ≡ true
 first_of_two true b either none = refl
 first_of_two false b either none = absurd cc
 
--- an element of a node page has its list
-pub list_there : (p : Params) (pages : List Content) (at : Tid) (x : List ℕ) (e : Element) → IsNodePage p pages at.block
+-- an element of a node page keeps its rule
+pub element_good : (p : Params) (pages : List Content) (at : Tid) (x : List ℕ) (e : Element) → IsNodePage p pages at.block
     → item_in pages at ≡ Some x → in_whole (element p x) ≡ Some e → in_whole (links p x) ≡ None
-    → (l : Links) × (links_in p pages e.list_at ≡ Some l)
-list_there p pages at x e page is element_is no_list =
+    → is_list_of p (head_of_element e) (links_in p pages e.list_at) ≡ true
+element_good p pages at x e page is element_is no_list =
     let h = head_of_element e in
     let item = page.items at x refl is in
     let as_head : head_in p pages at ≡ Some h = ap (λ o. option_map head_of_element (option_and_then (λ x. in_whole (element p x)) o)) is ∙ ap (option_map head_of_element) element_is in
     let as_list : links_in p pages at ≡ None = ap (λ o. option_and_then (λ x. in_whole (links p x)) o) is ∙ no_list in
     let not_list : is_list p pages at (links_in p pages at) ≡ false = ap (is_list p pages at) as_list in
     let good : is_element p pages (head_in p pages at) ≡ true = first_of_two (is_element p pages (head_in p pages at)) (is_list p pages at (links_in p pages at)) item not_list in
-    listed p h (links_in p pages e.list_at) (ap (is_element p pages) (sym as_head) ∙ good)
+    ap (is_element p pages) (sym as_head) ∙ good
+
+-- and has its list
+pub list_there : (p : Params) (pages : List Content) (at : Tid) (x : List ℕ) (e : Element) → IsNodePage p pages at.block
+    → item_in pages at ≡ Some x → in_whole (element p x) ≡ Some e → in_whole (links p x) ≡ None
+    → (l : Links) × (links_in p pages e.list_at ≡ Some l)
+list_there p pages at x e page is element_is no_list =
+    listed p (head_of_element e) (links_in p pages e.list_at) (element_good p pages at x e page is element_is no_list)
 
 module _ (pages after : List Content) (g : Graph) (place : Tid) (old new : List ℕ) (e f : Element) (s : Stands pages g) (change : IsChangedAt place old new pages after)
     (apart : place.block ≡ 0 → ⊥) (low : 1 ≤ place.block) (are : AreElements s.meta.params old new e f) where

@@ -40,7 +40,7 @@ second_of_two : (a b : Bool) → (a || b) ≡ true → a ≡ false → b ≡ tru
 second_of_two true b either none = absurd cc
 second_of_two false b either none = either
 
-or_second : (a b : Bool) → b ≡ true → (a || b) ≡ true
+pub or_second : (a b : Bool) → b ≡ true → (a || b) ≡ true
 or_second true b is = refl
 or_second false b is = is
 

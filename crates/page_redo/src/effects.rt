@@ -1,17 +1,19 @@
-//! What redo of an event that changes one tuple makes of the graph that the pages stand for: laws, and no work.
+//! What redo of an event that changes tuples which stand there makes of the graph that the pages stand for: laws, and no work.
 //!
 //! Redo itself tests versions, deleted states, and the numbers of ids and slots. What a law asks besides is what an event that
 //! the rules allow gives.
 
-ghost use Rattle.std.specs.Prelude.{◌≡◌, ◌≤◌, ◌<◌, ℕ, List, Option, Some, slice_get};
+ghost use Rattle.std.specs.Prelude.{◌≡◌, ◌≤◌, ◌<◌, ℕ, List, Option, Some, slice_get, All};
 ghost use Rattle.vec_names.specs.declared.tid.Tid.{Tid as Place};
 ghost use Rattle.vec_names.specs.declared.heap_id.HeapId.{HeapId};
-ghost use Rattle.vec_event.specs.declared.event.Event.TheVariants.{Join, Link, Relist, Drop, Entry, Hint};
-ghost use Rattle.page_bytes.specs.Content.{Content};
+ghost use Rattle.vec_event.specs.declared.event.Event.TheVariants.{Join, Link, Relist, Drop, Mark, Entry, Hint};
+ghost use Rattle.page_bytes.specs.Content.{Content, IsPage};
 ghost use Rattle.vec_graph.specs.declared.node.Node.{Node};
 ghost use Rattle.vec_graph.specs.declared.graph.Graph.{Graph};
 ghost use Rattle.vec_graph.specs.Graph.{node_at, HasLevel};
-ghost use Rattle.page_redo.specs.Effects.{RedoIsEffect};
+ghost use Rattle.vec_graph.specs.Effect.{effect};
+ghost use Rattle.page_redo.specs.Standing.{Stands};
+ghost use Rattle.page_redo.specs.Effects.{RedoIsEffect, AreRedone};
 
 /// A law, and no work. Redo of another hint is that event's effect on the graph, where the graph has so many blocks.
 pub fn law_hint()
@@ -49,4 +51,13 @@ pub fn law_join()
 /// A law, and no work. Redo of an element's ids that go is that event's effect on the graph.
 pub fn law_drop()
     ensures { (pages : List Content) (g : Graph) (at : Place) (version gone : ℕ) → RedoIsEffect pages g (Drop at version gone) }
+{}
+
+/// A law, and no work. Redo of a node's deletion, on the page of its element and on that of its neighbour tuple, which may be one
+/// page, is that event's effect on the graph, where the neighbour tuple is that of the node.
+pub fn law_mark()
+    ensures { (pages after : List Content) (g : Graph) (at list_at : Place) (version wrap number : ℕ) (n : Node)
+        → All IsPage pages → Stands pages g → node_at g at ≡ Some n → n.list_at ≡ list_at
+        → AreRedone g.params wrap number (Mark at list_at version) pages after
+        → Stands after (effect wrap (Mark at list_at version) g) }
 {}

@@ -3,7 +3,7 @@
 use crate::tests::{ELEMENT, GRAPH, META, SLOTS, fits, place, put, row};
 use crate::{
     GraphFault, graph_of, law_drop, law_elsewhere, law_entry, law_hint, law_join, law_link,
-    law_others, law_relist, law_standing,
+    law_mark, law_others, law_relist, law_standing,
 };
 use bit_code::read_bits;
 use page_bytes::{Page, PageKind};
@@ -271,5 +271,6 @@ fn laws_are_called(_rt: HostRuntime) -> Result<(), Fail> {
     law_relist();
     law_join();
     law_drop();
+    law_mark();
     Ok(())
 }

@@ -6,7 +6,7 @@
 //!
 //! `graph_of` reads a graph from pages, or names the first block that breaks a rule of the format; `specs/Standing.antt` says
 //! which pages stand for which graph. It takes memory for the graph. The laws of `effects` tie the two: redo of an event that
-//! changes one tuple is the event's effect on the graph.
+//! changes tuples which stand there is the event's effect on the graph.
 #![tactic(auto)]
 
 mod blocks;
@@ -29,7 +29,7 @@ mod put;
 mod rules;
 mod standing;
 
-pub use effects::{law_drop, law_entry, law_hint, law_join, law_link, law_relist};
+pub use effects::{law_drop, law_entry, law_hint, law_join, law_link, law_mark, law_relist};
 pub use events::redo;
 pub use fault::RedoFault;
 pub use graph_fault::GraphFault;
