@@ -24,3 +24,5 @@ pub mod HeadEffect
 pub mod ListEffect
 pub mod SlotEffect
 pub mod MetaEffect
+pub mod RoleFits
+pub mod EventFits
