@@ -33,7 +33,7 @@ mod standing;
 pub use effects::{law_drop, law_entry, law_hint, law_join, law_link, law_relist};
 pub use events::redo;
 pub use fault::RedoFault;
-pub use fitting::law_hint_fits;
+pub use fitting::{law_drop_fits, law_entry_fits, law_hint_fits, law_join_fits, law_link_fits, law_relist_fits};
 pub use graph_fault::GraphFault;
 pub use law::{law_elsewhere, law_others, law_standing};
 pub use standing::graph_of;
