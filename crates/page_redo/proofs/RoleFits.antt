@@ -1,14 +1,13 @@
 -- The role of an event of one block fits the page there, where pages stand for a graph.
-use Rattle.std.proofs.Common.{◌≡◌, ℕ, zero, suc, ◌-◌, ◌&&◌, ◌||◌, ◌==◌, Bool, true, false, List, [], ◌∷◌, length, Option, Some, None, refl, sym, ap, subst, ◌∙◌, arith, lit<}
-use Rattle.std.specs.Prelude.{slice_get, All, Contains}
+use Rattle.std.proofs.Common.{◌≡◌, ℕ, zero, suc, ◌&&◌, ◌==◌, Bool, true, false, List, length, Option, Some, None, refl, sym, ap, subst, ◌∙◌, arith}
+use Rattle.std.specs.Prelude.{slice_get, All}
 use Rattle.std.specs.Bool.{beq}
 use Rattle.std.specs.Option.{option_map, option_and_then}
-use Rattle.std.proofs.lemmas.Bool.{and_parts, and_from, eqb-true, eq-eqb}
+use Rattle.std.proofs.lemmas.Bool.{and_parts, eqb-true, eq-eqb}
 use Rattle.std.proofs.lemmas.Option.{slice_get_within}
 use Rattle.byte_fields.specs.Reading.{Reader}
 use Rattle.byte_fields.proofs.EachField.{some_is}
 use Rattle.vec_names.specs.declared.tid.Tid.{Tid}
-use Rattle.vec_names.specs.declared.params.Params.{Params}
 use Rattle.page_bytes.specs.Content.{Content, IsPage, item_at}
 use Rattle.vec_tuples.specs.declared.meta.Meta.{Meta}
 use Rattle.vec_tuples.specs.declared.element.Element.{Element}
@@ -20,10 +19,10 @@ use Rattle.vec_tuples.proofs.ElementLaws.{element_field}
 use Rattle.vec_graph.specs.declared.node.Node.{Node}
 use Rattle.vec_graph.specs.declared.graph.Graph.{Graph}
 use Rattle.vec_graph.specs.Graph.{node_at, slots_of_level}
-use Rattle.page_redo.specs.Items.{in_whole, read_at, with_item, with_head, meta_at, head_changed, links_changed, meta_changed, is_graph, is_meta_page, is_graph_page}
+use Rattle.page_redo.specs.Items.{in_whole, read_at, with_item, with_head, meta_at, head_changed, links_changed, meta_changed, is_graph, is_graph_page}
 use Rattle.page_redo.specs.Roles.{Role, on_graph, on_meta}
 use Rattle.page_redo.specs.Redo.{at_one, numbered}
-use Rattle.page_redo.specs.Standing.{item_in, read_in, element_in, links_in, head_in, is_list_of, is_element, is_list, node_with as made_of, node_in, IsNodePage, Stands}
+use Rattle.page_redo.specs.Standing.{item_in, read_in, element_in, links_in, head_in, is_list_of, is_element, is_list, node_with as made_of, Stands}
 use Rattle.page_redo.proofs.Given.{then_is, map_is, item_bytes}
 use Rattle.page_redo.proofs.ItemLaws.{whole_spelled}
 use Rattle.page_redo.proofs.Pairs.{no_list}
@@ -61,6 +60,7 @@ module _ (pages : List Content) (g : Graph) (all : All IsPage pages) (s : Stands
   r : IsRootOf pages s.meta
   r = root_is pages s.meta s.read
 
+  -- an event that changes the meta tuple
   pub meta_role_fits : (number : ℕ) (change : Meta → Option Meta) (k : Meta) → change s.meta ≡ Some k
       → OneFits pages 0 number (on_meta (meta_changed change))
   meta_role_fits number change k is =
@@ -95,6 +95,7 @@ module _ (pages : List Content) (g : Graph) (all : All IsPage pages) (s : Stands
       let page = node_pages pages g s at.block (low_from at.block apart) in
       (c.0, c.1, page.kind c.0 c.1, ap (λ o. option_and_then (λ x. in_whole (f x)) o) c.2 ∙ x.2)
 
+  -- the element and the list that a node is made of
   node_there : (at : Tid) (n : Node) → node_at g at ≡ Some n
       → (e : Element) × (element_in s.meta.params pages at ≡ Some e) × (l : Links) × (links_in s.meta.params pages e.list_at ≡ Some l) × (made_of e l ≡ n)
   node_there at n stands =
@@ -123,6 +124,7 @@ module _ (pages : List Content) (g : Graph) (all : All IsPage pages) (s : Stands
       let alike = and_parts (l.version == h.version) (beq l.deleted h.deleted) parts.1 in
       (eqb-true l.version h.version alike.0, same_if_beq l.deleted h.deleted alike.1)
 
+  -- an event that changes the head of a node's element
   pub head_role_fits : (number : ℕ) (at : Tid) (n : Node) (change : ElementHead → Option ElementHead) → node_at g at ≡ Some n
       → ((e : Element) (l : Links) → made_of e l ≡ n → (k : ElementHead) × (change (head_of_element e) ≡ Some k))
       → OneFits pages at.block number (on_graph g.params (head_changed change g.params at.off))
@@ -137,6 +139,7 @@ module _ (pages : List Content) (g : Graph) (all : All IsPage pages) (s : Stands
       (one_fits pages at.block number (on_graph p (head_changed change p at.off)) c (with_item c at.off (element_bytes (with_head k.0 e))) there.1
       (rw (of_graph_kind, there.2, there.3, k.1) refl))
 
+  -- an event that changes the slots of a node's list
   pub links_role_fits : (number : ℕ) (at list_at : Tid) (n : Node) (change : Links → Option Links) → node_at g at ≡ Some n → n.list_at ≡ list_at
       → ((l : Links) → l.version ≡ n.version → l.deleted ≡ n.deleted → l.tids ≡ n.slots → (k : Links) × (change l ≡ Some k))
       → OneFits pages list_at.block number (on_graph g.params (links_changed change g.params list_at.off))
