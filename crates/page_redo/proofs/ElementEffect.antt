@@ -35,7 +35,7 @@ listed : (p : Params) (h : ElementHead) (o : Option Links) → is_list_of p h o 
 listed p h None is = absurd cc
 listed p h (Some l) is = (l, refl)
 
-first_of_two : (a b : Bool) → (a || b) ≡ true → b ≡ false → a ≡ true
+pub first_of_two : (a b : Bool) → (a || b) ≡ true → b ≡ false → a ≡ true
 first_of_two true b either none = refl
 first_of_two false b either none = absurd cc
 

@@ -26,3 +26,5 @@ pub mod SlotEffect
 pub mod MetaEffect
 pub mod TwoItems
 pub mod MarkEffect
+pub mod RoleFits
+pub mod EventFits

@@ -2,8 +2,9 @@
 
 use crate::tests::{ELEMENT, GRAPH, META, SLOTS, fits, place, put, row};
 use crate::{
-    GraphFault, graph_of, law_drop, law_elsewhere, law_entry, law_hint, law_join, law_link,
-    law_mark, law_others, law_relist, law_standing,
+    GraphFault, graph_of, law_drop, law_drop_fits, law_elsewhere, law_entry, law_entry_fits,
+    law_hint, law_hint_fits, law_join, law_join_fits, law_link, law_link_fits, law_mark,
+    law_others, law_relist, law_relist_fits, law_standing,
 };
 use bit_code::read_bits;
 use page_bytes::{Page, PageKind};
@@ -272,5 +273,16 @@ fn laws_are_called(_rt: HostRuntime) -> Result<(), Fail> {
     law_join();
     law_drop();
     law_mark();
+    Ok(())
+}
+
+#[test]
+fn fits_are_called(_rt: HostRuntime) -> Result<(), Fail> {
+    law_hint_fits();
+    law_entry_fits();
+    law_join_fits();
+    law_drop_fits();
+    law_link_fits();
+    law_relist_fits();
     Ok(())
 }

@@ -6,7 +6,7 @@
 //!
 //! `graph_of` reads a graph from pages, or names the first block that breaks a rule of the format; `specs/Standing.antt` says
 //! which pages stand for which graph. It takes memory for the graph. The laws of `effects` tie the two: redo of an event that
-//! changes tuples which stand there is the event's effect on the graph.
+//! changes tuples which stand there is the event's effect on the graph. Those of `fitting` say when such an event fits the pages.
 #![tactic(auto)]
 
 mod blocks;
@@ -15,6 +15,7 @@ mod changes;
 mod effects;
 mod events;
 mod fault;
+mod fitting;
 mod graph;
 mod graph_fault;
 mod heads;
@@ -32,6 +33,9 @@ mod standing;
 pub use effects::{law_drop, law_entry, law_hint, law_join, law_link, law_mark, law_relist};
 pub use events::redo;
 pub use fault::RedoFault;
+pub use fitting::{
+    law_drop_fits, law_entry_fits, law_hint_fits, law_join_fits, law_link_fits, law_relist_fits,
+};
 pub use graph_fault::GraphFault;
 pub use law::{law_elsewhere, law_others, law_standing};
 pub use standing::graph_of;
