@@ -1,5 +1,6 @@
 -- A packed value as the list of its places, and the counts on such lists.
 use Rattle.std.specs.Prelude.{ℕ, zero, suc, ◌+◌, ◌*◌, ◌/◌, ◌%◌, ◌^◌, ◌≤◌, ◌-◌, ◌≡◌, Bool, true, false, List, [], ◌∷◌, ◌++◌, ◌==◌, length, drop, replicate}
+use Rattle.index_sizes.specs.declared.limits.TheConstants.{MOST_BITS}
 
 -- the k lowest binary digits of n, the highest of them first
 unfoldable pub places : ℕ → ℕ → List Bool
@@ -69,6 +70,6 @@ pub record Packs (xs : List Bool) (bytes : List ℕ) : Type 0 where
 -- what the fields of a packed value keep: unused places are 0
 pub record Packed (count : ℕ) (bytes : List ℕ) : Type 0 where
   pub some : 1 ≤ count
-  pub few : count ≤ 64000
+  pub few : count ≤ MOST_BITS
   pub long : length bytes ≡ (count + 7) / 8
   pub clear : drop count (unpacked bytes) ≡ replicate (8 * length bytes - count) false

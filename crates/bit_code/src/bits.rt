@@ -4,8 +4,9 @@ ghost use Rattle.std.specs.Prelude.{take, replicate, false, slice_set};
 ghost use Rattle.bit_code.specs.Places.{packed, places, unpacked, Packed};
 ghost use Rattle.bit_code.specs.declared.fault.BitsFault.TheVariants.{Memory};
 
+use index_sizes::MOST_BITS;
 use crate::BitsFault;
-use std::alloc::Global;
+use std::alloc::{AllocError, Global};
 use std::marker::Model;
 
 /// A value of 1 to 64,000 places, each 0 or 1. Contracts see it as the list of its places.
@@ -31,7 +32,7 @@ impl Model for Bits {
 
 impl Bits {
     /// The greatest number of places.
-    pub const MOST: u32 = 64_000;
+    pub const MOST: u32 = MOST_BITS;
 
     /// The value of `count` places whose packed bytes these are. `is_packed` tells whether a count and bytes may be passed.
     /// Only memory can be wanting.
@@ -48,7 +49,7 @@ impl Bits {
     /// The value of `count` places that are all 0. Only memory can be wanting.
     pub fn zeros(alloc: Global, count: u32) -> Result<Bits, BitsFault>
         requires some { 1 ≤ count }
-        requires few { count ≤ 64000 }
+        requires few { count ≤ MOST_BITS }
         ensures value { IfOk result (λ b. b ≡ replicate count false) }
         ensures memory { IfErr result (λ e. e ≡ BitsFault.Memory) }
     {
@@ -62,6 +63,14 @@ impl Bits {
         ensures equal { IfOk result (λ b. b ≡ self.now) }
         ensures memory { IfErr result (λ e. e ≡ BitsFault.Memory) }
     {
+        let bits = self.copied()?;
+        Ok(bits)
+    }
+
+    /// An equal value in memory of its own, for callers to whom want of memory is an `AllocError`.
+    pub fn copied(&self) -> Result<Bits, AllocError>
+        ensures { IfOk result (λ b. b ≡ self.now) }
+    {
         let bytes = Vec::from_slice(*self.bytes.allocator(), self.bytes.as_slice())?;
         Ok(Bits {
             count: self.count,
@@ -73,7 +82,7 @@ impl Bits {
     pub fn count(&self) -> u32
         ensures count { result ≡ length self.now }
         ensures some { 1 ≤ result }
-        ensures few { result ≤ 64000 }
+        ensures few { result ≤ MOST_BITS }
     {
         self.count
     }

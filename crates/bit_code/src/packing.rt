@@ -2,6 +2,7 @@
 ghost use Rattle.std.specs.Prelude.{◌≡◌, ◌+◌, ◌*◌, ◌-◌, ◌/◌, ◌%◌, ◌^◌, ◌≤◌, ◌<◌, ◌↔◌, IsTrue, ℕ, List, Bool, All, false, drop, length, replicate, take};
 ghost use Rattle.bit_code.specs.Places.{places, unpacked, packed, Packed};
 
+use index_sizes::MOST_BITS;
 use crate::Bits;
 
 /// Whether these are the packed bytes of a value of `count` places: 1 to 64,000 of them, as many bytes as they need, and
@@ -25,7 +26,7 @@ pub fn is_packed(count: u32, bytes: &[u8]) -> bool
 pub fn packing_is_exact()
     ensures long { (xs : List Bool) → length (packed xs) ≡ (length xs + 7) / 8 }
     ensures bytes { (xs : List Bool) → All (λ b. b < 256) (packed xs) }
-    ensures kept { (xs : List Bool) → 1 ≤ length xs → length xs ≤ 64000 → Packed (length xs) (packed xs) }
+    ensures kept { (xs : List Bool) → 1 ≤ length xs → length xs ≤ MOST_BITS → Packed (length xs) (packed xs) }
     ensures back { (xs : List Bool) → take (length xs) (unpacked (packed xs)) ≡ xs }
     ensures same { (xs ys : List Bool) → length xs ≡ length ys → packed xs ≡ packed ys → xs ≡ ys }
     ensures whole { (count : ℕ) (bytes : List ℕ) → Packed count bytes → All (λ b. b < 256) bytes → packed (take count (unpacked bytes)) ≡ bytes }
@@ -34,7 +35,7 @@ pub fn packing_is_exact()
 // Whether the bits after the last place are 0.
 fn has_clear_end(count: u32, bytes: &[u8]) -> bool
     requires some { 1 ≤ count }
-    requires few { count ≤ 64000 }
+    requires few { count ≤ MOST_BITS }
     requires long { length bytes.now ≡ (count + 7) / 8 }
     ensures { IsTrue result ↔ drop count (unpacked bytes.now) ≡ replicate (8 * length bytes.now - count) false }
 {

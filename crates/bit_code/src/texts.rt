@@ -3,6 +3,7 @@ ghost use Rattle.std.specs.Prelude.{◌≡◌, ◌<◌, ◌≤◌, ◌-◌, ◌+
 ghost use Rattle.bit_code.specs.Places.{places, Packs};
 ghost use Rattle.bit_code.specs.Texts.{IsBitText, IsFaultOf, first_bad, places_of_text};
 
+use index_sizes::MOST_BITS;
 use crate::{Bits, BitsFault};
 use std::alloc::{AllocError, Global};
 
@@ -38,7 +39,7 @@ fn first_bad_place(text: &[u8]) -> Option<usize>
 
 // The packed bytes of good characters, the unused places of the last byte 0.
 fn pack(alloc: Global, text: &[u8]) -> Result<Vec<u8>, AllocError>
-    requires { length text.now ≤ 64000 }
+    requires { length text.now ≤ MOST_BITS }
     ensures { IfOk result (λ bytes. Packs (places_of_text text.now) bytes.items) }
 {
     let (whole, rest) = text.as_chunks::<8>();

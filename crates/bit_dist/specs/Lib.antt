@@ -1,4 +1,3 @@
 pub mod Shared
 pub mod Distances
 pub mod Orders
-pub mod Ranking

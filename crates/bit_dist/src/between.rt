@@ -3,6 +3,7 @@ ghost use Rattle.std.specs.Prelude.{◌≡◌, ◌≤◌, length};
 ghost use Rattle.bit_code.specs.Places.{both, ones};
 ghost use Rattle.bit_dist.specs.Distances.{hamming_of, jaccard_of, jaccard_num, jaccard_den, distance_of};
 
+use index_sizes::MOST_BITS;
 use crate::Dist;
 use bit_code::{Bits, count_both, count_ones, count_unequal};
 use vec_names::Ops;
@@ -47,7 +48,7 @@ fn counts(a: &Bits, b: &Bits) -> (u32, u32, u32)
     ensures counts { result ≡ (ones a.now, ones b.now, both a.now b.now) }
     ensures first { result.2 ≤ result.0 }
     ensures second { result.2 ≤ result.1 }
-    ensures few { (result.0 ≤ 64000) × (result.1 ≤ 64000) }
+    ensures few { (result.0 ≤ MOST_BITS) × (result.1 ≤ MOST_BITS) }
 {
     // The number of places bounds each count.
     let _places = a.count();
@@ -57,7 +58,7 @@ fn counts(a: &Bits, b: &Bits) -> (u32, u32, u32)
 fn fraction(in_a: u32, in_b: u32, shared: u32) -> Dist
     requires first { shared ≤ in_a }
     requires second { shared ≤ in_b }
-    requires few { (in_a ≤ 64000) × (in_b ≤ 64000) }
+    requires few { (in_a ≤ MOST_BITS) × (in_b ≤ MOST_BITS) }
     ensures num { result.num ≡ jaccard_num in_a in_b shared }
     ensures den { result.den ≡ jaccard_den in_a in_b shared }
 {

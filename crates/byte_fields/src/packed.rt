@@ -6,6 +6,7 @@ ghost use Rattle.bit_code.specs.Places.{unpacked, Packed};
 ghost use Rattle.byte_fields.specs.Reading.{packed_places};
 ghost use Rattle.byte_fields.specs.Answers.{Gives};
 
+use index_sizes::MOST_BITS;
 use crate::stop::Stop;
 use bit_code::is_packed;
 
@@ -13,7 +14,7 @@ use bit_code::is_packed;
 #[tactic(auto, unfolding(crate::specs::Reading::packed_places, crate::specs::Reading::field))]
 pub fn packed_places(count: u32, bytes: &[u8]) -> Result<(&[u8], &[u8]), Stop>
     requires some { 1 ≤ count }
-    requires few { count ≤ 64000 }
+    requires few { count ≤ MOST_BITS }
     ensures reads { Gives (λ x. (take count (unpacked x.0.now), x.1.now)) result (packed_places count bytes.now) }
     ensures kept { IfOk result (λ x. Packed count x.0.now) }
 {
@@ -31,7 +32,7 @@ pub fn packed_places(count: u32, bytes: &[u8]) -> Result<(&[u8], &[u8]), Stop>
 /// Whether no bit behind so many places is set.
 fn is_clear(count: u32, bytes: &[u8]) -> bool
     requires some { 1 ≤ count }
-    requires few { count ≤ 64000 }
+    requires few { count ≤ MOST_BITS }
     requires long { length bytes.now ≡ (count + 7) / 8 }
     ensures { result ≡ list_all not (drop count (unpacked bytes.now)) }
 {

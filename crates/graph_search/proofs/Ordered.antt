@@ -4,9 +4,9 @@ use Rattle.std.specs.Cmp.{IsStrictWeakOrder, IsTotalOrder}
 use Rattle.std.proofs.lemmas.Cmp.{on_total, then_total}
 use Rattle.std.proofs.lemmas.List.MinMax.{ranks_by}
 use Rattle.vec_names.specs.Order.{tid_cmp_total}
-use Rattle.bit_dist.specs.Ranking.{ranked}
+use Rattle.list_values.specs.Ranking.{ranked}
 use Rattle.bit_dist.specs.Orders.{dist_cmp_total}
-use Rattle.bit_dist.proofs.Ranks.{rises_ranked, rises_at}
+use Rattle.list_values.proofs.Ranks.{rises_ranked, rises_at}
 use Rattle.neighbour_pick.specs.declared.found.Found.{Found}
 use Rattle.neighbour_pick.proofs.Choosing.{All_of, ranked_all, got_all}
 use Rattle.neighbour_pick.proofs.Selecting.{in_whole}

@@ -3,7 +3,7 @@ use Rattle.std.specs.Prelude.{◌≡◌, ℕ, ◌≤◌, ◌==◌, ◌||◌, not
 use Rattle.std.specs.FinMap as fin
 use Rattle.vec_names.specs.declared.tid.Tid.{Tid}
 use Rattle.vec_names.specs.declared.heap_id.HeapId.{HeapId}
-use Rattle.vec_event.specs.declared.event.Act.{Act}
+use Rattle.vec_history.specs.declared.event.Act.{Act}
 use Rattle.vec_graph.specs.declared.node.Node.{Node}
 use Rattle.vec_graph.specs.declared.graph.Graph.{Graph}
 use Rattle.vec_graph.specs.Graph.{node_at, layer_slots}

@@ -10,7 +10,7 @@ use Rattle.vec_names.specs.declared.heap_id.HeapId.{HeapId}
 use Rattle.vec_names.specs.declared.params.Ops.{Ops}
 use Rattle.vec_names.specs.Order.{tid_cmp}
 use Rattle.bit_dist.specs.Distances.{distance_of}
-use Rattle.bit_dist.specs.Ranking.{ranked}
+use Rattle.list_values.specs.Ranking.{ranked}
 use Rattle.neighbour_pick.specs.declared.found.Found.{Found}
 use Rattle.neighbour_pick.specs.Order.{candidate_of, is_nearer}
 use Rattle.graph_search.specs.Reads.{Look, AtNode, AtList, Answer, Gone, OfMeta, OfNode, OfList, OfPage}

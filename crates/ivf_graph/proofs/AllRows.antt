@@ -7,8 +7,8 @@ use Rattle.std.proofs.lemmas.List.{map-append, take_all, length-take, length-map
 use Rattle.std.proofs.lemmas.List.Concat.{flat_map-append}
 use Rattle.std.proofs.lemmas.List.FromFn.{length-enumerate_from}
 use Rattle.std.proofs.lemmas.List.Sorted.{IsPermutation-refl, IsPermutation-trans, IsPermutation-map, IsPermutation-append_left, IsPermutation-append_right, IsPermutation-append_comm, length_permutation}
-use Rattle.bit_dist.specs.Ranking.{placed, ranked}
-use Rattle.bit_dist.proofs.RankedOrder.{ranked_permutes}
+use Rattle.list_values.specs.Ranking.{placed, ranked}
+use Rattle.list_values.proofs.RankedOrder.{ranked_permutes}
 use Rattle.ivf_graph.specs.declared.list.IvfList.{IvfList}
 use Rattle.ivf_graph.specs.declared.graph.IvfGraph.{IvfGraph}
 use Rattle.ivf_graph.specs.Graph.{Row, Part, rows}

@@ -10,9 +10,9 @@ use Rattle.std.proofs.lemmas.List.Sorted.{ranks_by, IsPermutation-map}
 use Rattle.vec_names.specs.Order.{heap_id_cmp, heap_id_cmp_total}
 use Rattle.bit_dist.specs.Distances.{dist_cmp}
 use Rattle.bit_dist.specs.Orders.{dist_cmp_total}
-use Rattle.bit_dist.specs.Ranking.{ranked}
-use Rattle.bit_dist.proofs.Ranks.{rises_ranked}
-use Rattle.bit_dist.proofs.RankedOrder.{sorted_from_rises, rises-map, ranked_permutes}
+use Rattle.list_values.specs.Ranking.{ranked}
+use Rattle.list_values.proofs.Ranks.{rises_ranked}
+use Rattle.list_values.proofs.RankedOrder.{sorted_from_rises, rises-map, ranked_permutes}
 use Rattle.ivf_graph.specs.Answer.{Found, found_cmp, hit_of, hit_cmp, answer_of}
 
 pub found_cmp_total : IsTotalOrder found_cmp

@@ -7,13 +7,14 @@ use Rattle.std.proofs.Math.Nat.{lt-mul-div-succ}
 use Rattle.std.proofs.Math.Seq.{take-add}
 use Rattle.std.proofs.lemmas.List.{take-map, take-replicate, drop-replicate, length-replicate, map-append, take_all}
 use Rattle.std.proofs.lemmas.List.FromFn.{length-enumerate_from}
-use Rattle.bit_dist.specs.Ranking.{placed, ranked}
-use Rattle.bit_dist.proofs.RankedOrder.{ranked-map}
+use Rattle.list_values.specs.Ranking.{placed, ranked}
+use Rattle.list_values.proofs.RankedOrder.{ranked-map}
 use Rattle.ivf_graph.specs.declared.list.IvfList.{IvfList}
 use Rattle.ivf_graph.specs.declared.graph.IvfGraph.{IvfGraph}
 use Rattle.ivf_graph.specs.Graph.{AreBlocksApart}
 use Rattle.ivf_graph.specs.Answer.{Hit, found, probed, is_nearer, by_nearness, answer_of, ivf_answer}
-use Rattle.ivf_graph.specs.Reads.{first_block, Centre, centre_of, centres_on, centre_need, centres_a_page, centre_pages, centres_read, is_centre_nearer, firsts, Walks, IsAnswerFrom}
+use Rattle.index_sizes.specs.Sizes.{item_need, centre_size, centres_on_page}
+use Rattle.ivf_graph.specs.Reads.{first_block, Centre, centre_of, centres_on, centre_pages, centres_read, is_centre_nearer, firsts, Walks, IsAnswerFrom}
 use Rattle.ivf_graph.proofs.ChainsRead.{Told, AreTold, all_told, walked, some_walk}
 
 -- ---- the pages of the centres
@@ -53,18 +54,18 @@ some_by : (q x : ℕ) → 8160 < x * (q + 1) → x ≤ 8028 → 0 < q
 some_by zero x h low = absurd (omega arith)
 some_by (suc q) x h low = omega arith
 
-some_a_page : (places : ℕ) → places ≤ 64000 → 0 < centres_a_page places
+some_a_page : (places : ℕ) → places ≤ 64000 → 0 < centres_on_page places
 some_a_page places low =
     let need : 0 < centre_need places = omega arith in
     some_by (8160 / centre_need places) (centre_need places) (lt-mul-div-succ 8160 need) (omega arith)
 
 -- all pages tell the centres of all lists
 all_centres : (g : IvfGraph) (places : ℕ) → places ≤ 64000
-    → centres_read (centres_a_page places) 0 (replicate (centre_pages places (length g.lists)) g) ≡ map centre_of (enumerate_from 0 g.lists)
+    → centres_read (centres_on_page places) 0 (replicate (centre_pages places (length g.lists)) g) ≡ map centre_of (enumerate_from 0 g.lists)
 all_centres g places low =
-    centres_from g (centres_a_page places) 0 (centre_pages places (length g.lists))
-    ∙ ap (map centre_of) (take_all (centre_pages places (length g.lists) * centres_a_page places) (enumerate_from 0 g.lists)
-    (subst (λ n. n ≤ centre_pages places (length g.lists) * centres_a_page places) (sym (length-enumerate_from 0 g.lists)) (covered (length g.lists) (centres_a_page places) (some_a_page places low))))
+    centres_from g (centres_on_page places) 0 (centre_pages places (length g.lists))
+    ∙ ap (map centre_of) (take_all (centre_pages places (length g.lists) * centres_on_page places) (enumerate_from 0 g.lists)
+    (subst (λ n. n ≤ centre_pages places (length g.lists) * centres_on_page places) (sym (length-enumerate_from 0 g.lists)) (covered (length g.lists) (centres_on_page places) (some_a_page places low))))
 
 -- ---- the chains that are probed
 
@@ -124,7 +125,7 @@ probed_told g apart query probes =
 -- ---- the answer
 
 told_firsts : (g : IvfGraph) (query : List Bool) (probes : ℕ) → length query ≤ 64000
-    → firsts query probes (centres_read (centres_a_page (length query)) 0 (replicate (centre_pages (length query) (length g.lists)) g))
+    → firsts query probes (centres_read (centres_on_page (length query)) 0 (replicate (centre_pages (length query) (length g.lists)) g))
     ≡ filter_map (λ l. first_block l.chain) (probed g query probes)
 told_firsts g query probes low = ap (firsts query probes) (all_centres g (length query) low) ∙ probed_firsts g query probes
 
@@ -134,7 +135,7 @@ answer_of_one g n query probes answer apart low a =
     let pages = centre_pages (length query) (length g.lists) in
     let enough : pages ≤ n = subst (λ m. pages ≤ m) (length-replicate n g) a.enough in
     let same : AllByRecursion (λ s. s ≡ g) (drop pages (replicate n g)) = subst (AllByRecursion (λ s. s ≡ g)) (sym (drop-replicate pages n g)) (all_replicated (n - pages) g) in
-    let begin = ap (λ states. firsts query probes (centres_read (centres_a_page (length query)) 0 states)) (take-replicate pages n g enough)
+    let begin = ap (λ states. firsts query probes (centres_read (centres_on_page (length query)) 0 states)) (take-replicate pages n g enough)
     ∙ told_firsts g query probes low in
     a.in_order ∙ ap answer_of (walked g query a.walked same [] tt refl (probed g query probes) (probed_told g apart query probes) begin)
 
@@ -147,14 +148,14 @@ some_answer g query probes apart low =
     let taken : replicate pages g ≡ take pages (replicate n g) = sym (take-replicate pages n g (omega arith)) in
     let left : walk.0 ≡ n - pages = omega arith in
     let dropped : replicate walk.0 g ≡ drop pages (replicate n g) = ap (λ k. replicate k g) left ∙ sym (drop-replicate pages n g) in
-    let at_firsts : filter_map (λ l. first_block l.chain) (probed g query probes) ≡ firsts query probes (centres_read (centres_a_page (length query)) 0 (take pages (replicate n g))) =
-    sym (told_firsts g query probes low) ∙ ap (λ states. firsts query probes (centres_read (centres_a_page (length query)) 0 states)) taken in (
+    let at_firsts : filter_map (λ l. first_block l.chain) (probed g query probes) ≡ firsts query probes (centres_read (centres_on_page (length query)) 0 (take pages (replicate n g))) =
+    sym (told_firsts g query probes low) ∙ ap (λ states. firsts query probes (centres_read (centres_on_page (length query)) 0 states)) taken in (
       n,
       record {
         enough = subst (λ m. pages ≤ m) (sym (length-replicate n g)) (omega arith);
         found = found g query probes;
         walked =
-            subst (λ states. Walks query states None (firsts query probes (centres_read (centres_a_page (length query)) 0 (take pages (replicate n g)))) (found g query probes)) dropped
+            subst (λ states. Walks query states None (firsts query probes (centres_read (centres_on_page (length query)) 0 (take pages (replicate n g)))) (found g query probes)) dropped
             (subst (λ later. Walks query (replicate walk.0 g) None later (found g query probes)) at_firsts walk.1);
         in_order = refl;
       },

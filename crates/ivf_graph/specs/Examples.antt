@@ -4,8 +4,8 @@ use Rattle.std.proofs.Common.{lit<, lit≤}
 use Rattle.vec_names.specs.declared.heap_id.HeapId.{HeapId}
 use Rattle.bit_dist.specs.declared.dist.Dist.{Dist}
 use Rattle.bit_dist.specs.Distances.{one_positive}
-use Rattle.vec_event.specs.declared.event.Event.TheVariants as event
-use Rattle.vec_event.specs.declared.event.Act.{Act}
+use Rattle.vec_history.specs.declared.event.Event.TheVariants as event
+use Rattle.vec_history.specs.declared.event.Act.{Act}
 use Rattle.vec_history.specs.Acts.{act_of}
 use Rattle.ivf_graph.specs.declared.list.IvfList.{IvfList}
 use Rattle.ivf_graph.specs.declared.graph.IvfGraph.{IvfGraph}

@@ -2,6 +2,8 @@
 use Rattle.std.specs.Prelude.{◌<◌, nat_eq, map, ◌≡◌, ℕ, ◌+◌, ◌*◌, ◌-◌, ◌/◌, ◌≤◌, ◌==◌, Bool, List, All, Any, find, length, slice_get, sum_by, Option}
 use Rattle.std.specs.List.{flat_map, IsDistinct}
 use Rattle.std.specs.Option.{option_map}
+use Rattle.index_sizes.specs.declared.limits.TheConstants.{PAGE_ROOM}
+use Rattle.index_sizes.specs.Sizes.{item_need, entry_size}
 use Rattle.vec_names.specs.declared.heap_id.HeapId.{HeapId}
 use Rattle.ivf_graph.specs.declared.graph.IvfGraph.{IvfGraph}
 
@@ -50,13 +52,9 @@ pub record AreBlocksOwn (g : IvfGraph) : Type 0 where
 
 -- ---- bytes
 
--- the bytes of a page for items, each with its item pointer
-abbrev pub page_room : ℕ
-page_room = 8160
-
--- what the row of a value of so many places takes of a page: 16 bytes and the packed places, rounded up to eights, and an item pointer of four
+-- what the row of a value of so many places takes of a page
 abbrev pub row_need : ℕ → ℕ
-row_need places = (16 + (places + 7) / 8 + 7) / 8 * 8 + 4
+row_need places = item_need (entry_size places)
 
 -- what a block's rows take of its page
 abbrev pub taken : List Row → ℕ
@@ -64,7 +62,7 @@ taken rows = sum_by (λ r. row_need (length r.1)) rows
 
 -- a row with a value of so many places fits beside these
 abbrev pub HasRoom : List Row → ℕ → Type 0
-HasRoom rows places = taken rows + row_need places ≤ page_room
+HasRoom rows places = taken rows + row_need places ≤ PAGE_ROOM
 
 -- ---- values
 

@@ -1,6 +1,6 @@
 -- Legal histories.
 use Rattle.std.specs.Prelude.{List}
-use Rattle.vec_event.specs.declared.event.Act.{Act}
+use Rattle.vec_history.specs.declared.event.Act.{Act}
 use Rattle.vec_history.specs.Legal.{IsLegalBy}
 use Rattle.ivf_graph.specs.declared.graph.IvfGraph.{IvfGraph}
 use Rattle.ivf_graph.specs.Effect.{after}

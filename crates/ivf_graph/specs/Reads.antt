@@ -5,12 +5,13 @@ use Rattle.std.specs.List.{flat_map, filter_map, enumerate_from}
 use Rattle.std.specs.Option.{option_map, option_and_then}
 use Rattle.std.specs.Int.{div_ceil}
 use Rattle.std.specs.Ordering.{is_lt}
+use Rattle.index_sizes.specs.Sizes.{centres_on_page}
 use Rattle.bit_dist.specs.Distances.{hamming_of}
-use Rattle.bit_dist.specs.Ranking.{ranked}
-use Rattle.vec_event.specs.declared.event.Act.{Act}
+use Rattle.list_values.specs.Ranking.{ranked}
+use Rattle.vec_history.specs.declared.event.Act.{Act}
 use Rattle.ivf_graph.specs.declared.list.IvfList.{IvfList}
 use Rattle.ivf_graph.specs.declared.graph.IvfGraph.{IvfGraph}
-use Rattle.ivf_graph.specs.Graph.{Row, Part, rows_on, page_room}
+use Rattle.ivf_graph.specs.Graph.{Row, Part, rows_on}
 use Rattle.ivf_graph.specs.Effect.{state_after}
 use Rattle.ivf_graph.specs.Answer.{near_cmp, Found, found_on, Hit, answer_of}
 
@@ -47,17 +48,9 @@ centres_on count from g = map centre_of (take count (drop from (enumerate_from 0
 
 -- ---- the pages of the centres
 
--- what a centre of so many places takes of a page: 20 bytes and the packed places, rounded up to eights, and an item pointer of four
-abbrev pub centre_need : ℕ → ℕ
-centre_need places = (20 + (places + 7) / 8 + 7) / 8 * 8 + 4
-
--- how many centres stand on a page
-abbrev pub centres_a_page : ℕ → ℕ
-centres_a_page places = page_room / centre_need places
-
 -- on how many pages the centres of so many lists stand
 abbrev pub centre_pages : ℕ → ℕ → ℕ
-centre_pages places lists = div_ceil lists (centres_a_page places)
+centre_pages places lists = div_ceil lists (centres_on_page places)
 
 -- the centres told by a read of each page, rising, each in a state of its own
 abbrev pub centres_read : ℕ → ℕ → List IvfGraph → List Centre
@@ -89,7 +82,7 @@ pub record IsAnswerFrom (states : List IvfGraph) (lists : ℕ) (query : List Boo
   pub enough : centre_pages (length query) lists ≤ length states
   pub found : List Found
   pub walked : Walks query (drop (centre_pages (length query) lists) states) None
-      (firsts query probes (centres_read (centres_a_page (length query)) 0 (take (centre_pages (length query) lists) states))) found
+      (firsts query probes (centres_read (centres_on_page (length query)) 0 (take (centre_pages (length query) lists) states))) found
   pub in_order : answer ≡ answer_of found
 
 -- the answer of a search whose reads had these positions in the history

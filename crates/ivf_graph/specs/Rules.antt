@@ -1,11 +1,12 @@
 -- Which event a desk may make after a list of acts, which led to an index: one word for each kind of event.
 use Rattle.std.specs.Prelude.{◌≡◌, ℕ, ◌<◌, ◌≤◌, ◌≢◌, Bool, List, [], All, length, slice_get, Some}
 use Rattle.std.specs.List.Sorted.{IsStrictlyIncreasing}
-use Rattle.vec_event.specs.declared.event.Event.{Event}
-use Rattle.vec_event.specs.declared.event.Event.TheVariants as event
-use Rattle.vec_event.specs.declared.event.Act.{Act}
-use Rattle.vec_event.specs.declared.gate.Gate.TheVariants.{Vacuum}
-use Rattle.vec_event.specs.declared.gate.Hold.TheVariants.{Alone}
+use Rattle.index_sizes.specs.declared.limits.TheConstants.{MOST_BLOCKS}
+use Rattle.vec_history.specs.declared.event.Event.{Event}
+use Rattle.vec_history.specs.declared.event.Event.TheVariants as event
+use Rattle.vec_history.specs.declared.event.Act.{Act}
+use Rattle.vec_history.specs.declared.gate.Gate.TheVariants.{Vacuum}
+use Rattle.vec_history.specs.declared.gate.Hold.TheVariants.{Alone}
 use Rattle.vec_history.specs.Gates.{HoldsAs, IsGateAllowed}
 use Rattle.vec_history.specs.Phases.{IsUngateAllowed}
 use Rattle.vec_history.specs.Settling.{IsSettledAllowed, IsFaultAllowed}
@@ -28,7 +29,7 @@ pub record IsGrowAllowed (g : IvfGraph) (list last block : ℕ) (bits : List Boo
   pub is_there : slice_get g.lists list ≡ Some grows
   pub ends : last_block grows.chain ≡ Some last
   pub is_next : block ≡ g.blocks
-  pub not_high : block < 32768
+  pub not_high : block < MOST_BLOCKS
   pub as_long : IsAsLong g bits
 
 -- Rows go at offsets, from 1, that are there and rise, one at least, while the desk holds Vacuum alone.

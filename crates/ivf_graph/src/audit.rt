@@ -9,7 +9,7 @@ use crate::copies::copied;
 use crate::graph::IvfGraph;
 use crate::rules::is_allowed;
 use std::alloc::Global;
-use vec_event::Act;
+use vec_history::Act;
 use vec_history::AuditFault;
 
 /// Judges the acts of an index of lists that begins at this base: whether each was allowed after the acts

@@ -4,6 +4,7 @@ ghost use Rattle.std.specs.Prelude.{◌≡◌, ◌==◌, ◌≤◌, ◌↔◌, I
 ghost use Rattle.std.specs.Option.{option_copied, option_map};
 ghost use Rattle.ivf_graph.specs.Graph.{row_need as need_of_row, rows_on as rows_of_block, HasRoom, last_block};
 
+use index_sizes::{MOST_BITS, PAGE_ROOM, entry_size, item_need};
 use crate::graph::IvfGraph;
 use crate::list::IvfList;
 use bit_code::Bits;
@@ -36,19 +37,19 @@ pub(crate) fn rows_on(index: &IvfGraph, block: u32) -> Option<&Listed<(HeapId, B
 }
 
 /// What the row of a value of so many places takes of a page.
-fn row_need(places: u32) -> u32
-    requires { places ≤ 64000 }
+fn row_need(places: u32) -> u64
+    requires { places ≤ MOST_BITS }
     ensures { result ≡ need_of_row places }
 {
-    (16 + (places + 7) / 8 + 7) / 8 * 8 + 4
+    item_need(entry_size(places))
 }
 
 /// Whether a row with a value of so many places fits beside these.
 pub(crate) fn has_room(rows: &[(HeapId, Bits)], places: u32) -> bool
-    requires { places ≤ 64000 }
+    requires { places ≤ MOST_BITS }
     ensures { IsTrue result ↔ HasRoom rows.now places }
 {
-    let mut left: u32 = 8160;
+    let mut left = PAGE_ROOM as u64;
     for row in rows {
         let need = row_need(row.1.count());
         if left < need {

@@ -6,13 +6,13 @@ ghost use Rattle.vec_names.specs.declared.heap_id.HeapId.{HeapId as HeapIds};
 ghost use Rattle.ivf_graph.specs.Effect.{effect, row_change, changed_part, with_rows, changed, grown, aimed, others};
 ghost use Rattle.std.specs.Prelude.{map};
 
-use crate::copies::copied_bits;
+use index_sizes::MOST_BLOCKS;
 use crate::graph::IvfGraph;
 use crate::list::IvfList;
 use bit_code::Bits;
 use std::alloc::{AllocError, Global};
 use std::mem;
-use vec_event::Event;
+use vec_history::Event;
 use vec_names::{HeapId, Listed};
 
 /// Whether the offset is named.
@@ -39,7 +39,7 @@ fn change_rows(event: &Event, rows: &mut Listed<(HeapId, Bits)>) -> Result<(), A
 {
     match event {
         Event::IvfAdd { block: _, id, bits } => {
-            rows.push((*id, copied_bits(bits)?))?;
+            rows.push((*id, bits.copied()?))?;
             Ok(())
         }
         Event::IvfDrop { block: _, gone } => {
@@ -131,7 +131,7 @@ fn aim(alloc: Global, lists: &mut Listed<IvfList>, list: u32, block: u32)
 
 /// Makes of the index what the event makes of it. After want of memory the index is spoilt.
 pub(crate) fn apply(alloc: Global, event: &Event, index: &mut IvfGraph) -> Result<(), AllocError>
-    requires { (list last block : ℕ) (id : HeapIds) (bits : List Bool) → event.now ≡ Event.IvfGrow list last block id bits → block < 32768 }
+    requires { (list last block : ℕ) (id : HeapIds) (bits : List Bool) → event.now ≡ Event.IvfGrow list last block id bits → block < MOST_BLOCKS }
     ensures { OnOk result (index.new ≡ effect event.now index.old) }
 {
     match event {
@@ -153,7 +153,7 @@ pub(crate) fn apply(alloc: Global, event: &Event, index: &mut IvfGraph) -> Resul
                 &mut index.lists,
                 *list,
                 *block,
-                (*id, copied_bits(bits)?),
+                (*id, bits.copied()?),
             )?;
             index.blocks = index.blocks.max(*block + 1);
             Ok(())

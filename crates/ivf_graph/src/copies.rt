@@ -8,22 +8,12 @@ use bit_code::Bits;
 use std::alloc::{AllocError, Global};
 use vec_names::{HeapId, Listed};
 
-/// The same value in memory of its own.
-pub(crate) fn copied_bits(bits: &Bits) -> Result<Bits, AllocError>
-    ensures { IfOk result (λ copy. copy ≡ bits.now) }
-{
-    match bits.try_clone() {
-        Ok(copy) => Ok(copy),
-        Err(_) => Err(AllocError),
-    }
-}
-
 fn copied_rows(alloc: Global, rows: &[(HeapId, Bits)]) -> Result<Listed<(HeapId, Bits)>, AllocError>
     ensures { IfOk result (λ copy. copy ≡ rows.now) }
 {
     let mut copy = Listed::new(alloc);
     for row in rows {
-        copy.push((row.0, copied_bits(&row.1)?))?;
+        copy.push((row.0, row.1.copied()?))?;
     }
     Ok(copy)
 }
@@ -45,7 +35,7 @@ fn copied_list(alloc: Global, list: &IvfList) -> Result<IvfList, AllocError>
     ensures { IfOk result (λ copy. copy ≡ list.now) }
 {
     Ok(IvfList {
-        centre: copied_bits(&list.centre)?,
+        centre: list.centre.copied()?,
         aim: list.aim,
         chain: copied_chain(alloc, list.chain.as_slice())?,
     })

@@ -1,11 +1,11 @@
 //! What the definitions of the index of lists and of its histories mean: laws, and no work.
 
 ghost use Rattle.std.specs.Prelude.{◌≤◌, replicate, ◌≡◌, ◌≢◌, ◌⊎◌, ℕ, ◌++◌, ◌∷◌, [], take, slice_get, Some, Bool, true, false, List, map, min, length, IsSorted, IsPermutation};
-ghost use Rattle.vec_event.specs.declared.event.Act.{Act};
-ghost use Rattle.vec_event.specs.declared.event.Event.{Event as Events};
-ghost use Rattle.vec_event.specs.declared.gate.Gate.{Gate as Gates};
-ghost use Rattle.vec_event.specs.declared.gate.Hold.{Hold as Holding};
-ghost use Rattle.vec_event.specs.declared.gate.Hold.TheVariants.{Alone};
+ghost use Rattle.vec_history.specs.declared.event.Act.{Act};
+ghost use Rattle.vec_history.specs.declared.event.Event.{Event as Events};
+ghost use Rattle.vec_history.specs.declared.gate.Gate.{Gate as Gates};
+ghost use Rattle.vec_history.specs.declared.gate.Hold.{Hold as Holding};
+ghost use Rattle.vec_history.specs.declared.gate.Hold.TheVariants.{Alone};
 ghost use Rattle.vec_history.specs.Gates.{HoldsAs};
 ghost use Rattle.ivf_graph.specs.Answer.{Hit, ivf_answer, found, probed, hit_of, hit_of_row, hit_cmp};
 ghost use Rattle.ivf_graph.specs.Examples.{four, row_1, row_2, row_3, row_4, row_5, unequal_by, worked_acts, worked_index};
@@ -15,7 +15,7 @@ ghost use Rattle.ivf_graph.specs.Effect.{effect, after, AreRowsChanged};
 ghost use Rattle.ivf_graph.specs.Legal.{IsAllowed, IsLegal};
 
 use crate::graph::IvfGraph;
-use vec_event::Act;
+use vec_history::Act;
 
 /// A law, and no work. Each act of a legal history is allowed after the acts before it, so what is cut off
 /// anywhere is legal too; and an act that is allowed makes a longer legal history.

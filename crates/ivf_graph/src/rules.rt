@@ -1,18 +1,19 @@
 //! What the rules allow.
 
 ghost use Rattle.std.specs.Prelude.{◌≡◌, ◌↔◌, ◌≤◌, IsTrue, All};
-ghost use Rattle.vec_event.specs.declared.gate.Hold.TheVariants.{Alone};
-ghost use Rattle.vec_event.specs.declared.gate.Gate.TheVariants.{Vacuum};
+ghost use Rattle.vec_history.specs.declared.gate.Hold.TheVariants.{Alone};
+ghost use Rattle.vec_history.specs.declared.gate.Gate.TheVariants.{Vacuum};
 ghost use Rattle.vec_history.specs.Gates.{HoldsAs};
 ghost use Rattle.std.specs.List.Sorted.{IsStrictlyIncreasing};
 ghost use Rattle.ivf_graph.specs.Graph.{IsOfChain};
 ghost use Rattle.ivf_graph.specs.Rules.{IsAddAllowed, IsGrowAllowed, IsCutAllowed, IsAimAllowed, IsEventAllowed};
 
+use index_sizes::MOST_BLOCKS;
 use crate::blocks::{has_room, is_as_long, is_last, rows_on};
 use crate::graph::IvfGraph;
 use bit_code::Bits;
-use vec_event::{Act, Event, Gate, Hold};
-use vec_history::{held, may_fault, may_give_back, may_settle, may_take};
+use vec_history::{Act, Event, Gate, Hold};
+use vec_history::{hold_of, may_fault, may_give_back, may_settle, may_take};
 use vec_names::{HeapId, Listed};
 
 /// Whether a row may be added on the block.
@@ -35,7 +36,7 @@ pub(crate) fn may_grow(index: &IvfGraph, list: u32, last: u32, block: u32, bits:
         Some(grows) => {
             is_last(grows.chain.as_slice(), last)
                 && block == index.blocks
-                && block < 32_768
+                && block < MOST_BLOCKS
                 && is_as_long(index.lists.as_slice(), bits.count())
         }
         None => false,
@@ -61,7 +62,7 @@ fn are_there(gone: &[u16], count: usize) -> bool
 fn is_vacuuming(acts: &[Act], desk: u32) -> bool
     ensures { IsTrue result ↔ HoldsAs acts.now desk Vacuum Alone }
 {
-    match held(acts, desk, Gate::Vacuum) {
+    match hold_of(acts, desk, Gate::Vacuum) {
         Some((hold, _)) => hold == Hold::Alone,
         None => false,
     }

@@ -2,7 +2,7 @@ use super::*;
 use bit_code::{Bits, read_bits};
 use std::alloc::Global;
 use std::test::*;
-use vec_event::{Act, Event, Gate, Hold, Stage};
+use vec_history::{Act, Event, Gate, Hold, Stage};
 use vec_names::{HeapId, Listed};
 
 const ROW: HeapId = HeapId { block: 1, off: 5 };

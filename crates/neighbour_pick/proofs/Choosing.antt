@@ -5,7 +5,7 @@ use Rattle.std.proofs.lemmas.Option.{same_Some, none-some}
 use Rattle.std.proofs.lemmas.Bool.{ltb-true, lt-ltb}
 use Rattle.vec_names.specs.declared.tid.Tid.{Tid}
 use Rattle.vec_names.specs.declared.params.Ops.{Ops}
-use Rattle.bit_dist.specs.Ranking.{placed, ranked}
+use Rattle.list_values.specs.Ranking.{placed, ranked}
 use Rattle.neighbour_pick.specs.declared.found.SlotSeen.{SlotSeen}
 use Rattle.neighbour_pick.specs.Order.{Candidate, is_nearer}
 use Rattle.neighbour_pick.specs.Selection.{far_marks}

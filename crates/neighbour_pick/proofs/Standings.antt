@@ -5,7 +5,7 @@ use Rattle.std.proofs.lemmas.Option.{slice_get-get_or, slice_get-map, slice_get_
 use Rattle.std.proofs.lemmas.List.{drop_more, drop_all, length-map}
 use Rattle.vec_names.specs.declared.tid.Tid.{Tid}
 use Rattle.vec_names.specs.declared.params.Ops.{Ops}
-use Rattle.bit_dist.specs.Ranking.{placed, ranked}
+use Rattle.list_values.specs.Ranking.{placed, ranked}
 use Rattle.neighbour_pick.specs.declared.found.SlotSeen.{SlotSeen}
 use Rattle.neighbour_pick.specs.Order.{Candidate}
 use Rattle.neighbour_pick.specs.Selection.{far_marks}

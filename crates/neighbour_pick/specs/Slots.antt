@@ -5,7 +5,7 @@ use Rattle.std.specs.Ordering.{eq_by_cmp}
 use Rattle.vec_names.specs.declared.tid.Tid.{Tid}
 use Rattle.vec_names.specs.declared.params.Ops.{Ops}
 use Rattle.vec_names.specs.Order.{tid_cmp}
-use Rattle.bit_dist.specs.Ranking.{ranked}
+use Rattle.list_values.specs.Ranking.{ranked}
 use Rattle.neighbour_pick.specs.declared.found.SlotSeen.{SlotSeen}
 use Rattle.neighbour_pick.specs.Order.{Candidate, is_nearer}
 use Rattle.neighbour_pick.specs.Selection.{far_marks}

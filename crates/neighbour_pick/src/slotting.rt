@@ -4,7 +4,7 @@ ghost use Rattle.std.specs.Prelude.{◌≡◌, ◌<◌, ◌≤◌, List, ◌∷�
 ghost use Rattle.std.specs.List.{All, insert, list_any, position};
 ghost use Rattle.std.specs.Option.{option_map};
 ghost use Rattle.arrayvec.specs.ArrayVec.{array_vec_len};
-ghost use Rattle.bit_dist.specs.Ranking.{placed};
+ghost use Rattle.list_values.specs.Ranking.{placed};
 ghost use Rattle.neighbour_pick.specs.Order.{candidate_of};
 ghost use Rattle.neighbour_pick.specs.Selection.{is_far};
 ghost use Rattle.neighbour_pick.specs.Slots.{Rival, is_named, left_out, rivals, slot_left, slot_of};

@@ -1,6 +1,7 @@
 -- What a page holds, and which contents have a page.
 use Rattle.std.specs.Prelude.{◌≡◌, ℕ, zero, suc, ◌+◌, ◌-◌, ◌*◌, ◌/◌, ◌^◌, ◌<◌, ◌≤◌, List, [], ◌∷◌, length, Option, Some, None, All, slice_get, if◌then◌else◌, ◌==◌}
 use Rattle.std.specs.List.{list_any}
+use Rattle.index_sizes.specs.declared.limits.TheConstants.{PAGE_END, PAGE_ROOM}
 use Rattle.page_bytes.specs.declared.kind.PageKind.{PageKind}
 use Rattle.page_bytes.specs.declared.kind.PageKind.TheVariants.{IvfEntries}
 
@@ -25,7 +26,7 @@ abbrev pub lower_of : List (List ℕ) → ℕ
 lower_of items = 24 + 4 * length items
 
 abbrev pub upper_of : List (List ℕ) → ℕ
-upper_of items = 8184 - taken items
+upper_of items = PAGE_END - taken items
 
 -- the room between them
 abbrev pub free_of : Content → ℕ
@@ -46,7 +47,7 @@ pub record IsPage (p : Content) : Type 0 where
   pub next : IsNext p.kind p.next
   pub number : p.number < 2 ^ 64
   pub items : All IsItem p.items
-  pub room : taken p.items + 4 * length p.items ≤ 8160
+  pub room : taken p.items + 4 * length p.items ≤ PAGE_ROOM
 
 -- the item at an offset, the first of which is 1
 abbrev pub item_at : List (List ℕ) → ℕ → Option (List ℕ)

@@ -1,5 +1,6 @@
 -- What bytes show, whether they are a page or not.
 use Rattle.std.specs.Prelude.{◌≡◌, ℕ, zero, suc, ◌+◌, ◌-◌, ◌*◌, ◌/◌, ◌%◌, ◌^◌, List, [], ◌∷◌, Option, Some, None, take, drop, slice_index, if◌then◌else◌, ◌==◌}
+use Rattle.index_sizes.specs.declared.limits.TheConstants.{PAGE_END}
 use Rattle.page_bytes.specs.Content.{Content, IsPage}
 use Rattle.page_bytes.specs.Spelling.{spelling}
 use Rattle.page_bytes.specs.declared.kind.PageKind.{PageKind}
@@ -33,7 +34,7 @@ kind_from word = if word == 1 then Meta else (if word == 2 then Hnsw else (if wo
 unfoldable pub content : List ℕ → Content
 content bytes = record {
   kind = kind_from (half_at bytes 8190);
-  next = next_from (word_at bytes 8184);
+  next = next_from (word_at bytes PAGE_END);
   number = long_at bytes 0;
   items = items_at bytes 24 ((half_at bytes 12 - 24) / 4);
 }

@@ -1,5 +1,6 @@
 -- Where bytes that are no page go wrong.
 use Rattle.std.specs.Prelude.{◌≡◌, ℕ, ◌+◌, ◌<◌, ◌≤◌, List, ◌++◌, length, take}
+use Rattle.index_sizes.specs.declared.limits.TheConstants.{PAGE_SIZE}
 use Rattle.page_bytes.specs.Content.{Content, IsPage}
 use Rattle.page_bytes.specs.Spelling.{spelling}
 
@@ -16,4 +17,4 @@ pub record IsFirstFault (bytes : List ℕ) (at : ℕ) : Type 0 where
   pub within : at ≤ length bytes
   pub earlier : BeginsPage (take at bytes)
   pub here : at < length bytes → ¬ BeginsPage (take (at + 1) bytes)
-  pub short : at ≡ length bytes → at < 8192
+  pub short : at ≡ length bytes → at < PAGE_SIZE

@@ -1,5 +1,6 @@
 -- A page's bytes from left to right: which byte may stand at each place, after the ones before it.
 use Rattle.std.specs.Prelude.{◌≡◌, ◌<◌, ◌≤◌, Result, Ok, Err, ℕ, zero, suc, ◌+◌, ◌-◌, ◌*◌, ◌/◌, ◌%◌, ◌^◌, Bool, ◌&&◌, ◌==◌, nat_lt, nat_le, List, [], ◌∷◌, drop, if◌then◌else◌}
+use Rattle.index_sizes.specs.declared.limits.TheConstants.{PAGE_END}
 use Rattle.page_bytes.specs.Content.{round8}
 use Rattle.page_bytes.specs.Spelling.{zeros}
 use Rattle.page_bytes.specs.Decoding.{half_at, word_at}
@@ -73,14 +74,14 @@ pointers (suc left) gap upper top lens =
 -- pd_special, pd_pagesize_version and pd_prune_xid, and then the line pointers, whose number pd_lower tells
 unfoldable pub behind_upper : ℕ → ℕ → Format
 behind_upper lower upper =
-    fixed (0xF8 ∷ 0x1F ∷ 0x04 ∷ 0x20 ∷ 0 ∷ 0 ∷ 0 ∷ 0 ∷ []) (pointers ((lower - 24) / 4) (upper - lower) upper 8184 [])
+    fixed (0xF8 ∷ 0x1F ∷ 0x04 ∷ 0x20 ∷ 0 ∷ 0 ∷ 0 ∷ 0 ∷ []) (pointers ((lower - 24) / 4) (upper - lower) upper PAGE_END [])
 
 -- each item takes 8 bytes at least, and a line pointer of 4
 abbrev pub least_upper : ℕ → ℕ
-least_upper lower = if lower == 24 then 8184 else lower
+least_upper lower = if lower == 24 then PAGE_END else lower
 
 abbrev pub most_upper : ℕ → ℕ
-most_upper lower = 8184 - 2 * (lower - 24)
+most_upper lower = PAGE_END - 2 * (lower - 24)
 
 unfoldable pub behind_lower : ℕ → Format
 behind_lower lower = half (least_upper lower) (most_upper lower) 8 (behind_upper lower)
@@ -117,7 +118,7 @@ pub record InPointer (least most top place len : ℕ) : Type 0 where
 pub record Allows (least most top : ℕ) : Type 0 where
   pub order : least ≤ most
   pub below : most + 8 ≤ top
-  pub within : top ≤ 8184
+  pub within : top ≤ PAGE_END
   pub most_even : most % 8 ≡ 0
   pub top_even : top % 8 ≡ 0
 
@@ -125,7 +126,7 @@ pub record Allows (least most top : ℕ) : Type 0 where
 pub record Room (left upper top : ℕ) : Type 0 where
   pub upper_whole : upper % 8 ≡ 0
   pub top_whole : top % 8 ≡ 0
-  pub within : top ≤ 8184
+  pub within : top ≤ PAGE_END
   pub enough : upper + 8 * left ≤ top
   pub full : left ≡ 0 → upper ≡ top
 
@@ -151,12 +152,12 @@ FindsPlace least most top bytes at (Err bad) = (next : ℕ → ℕ → Format) �
 -- line pointers, after which the lengths are known that they tell, and so where the items end
 abbrev pub PassesPointers : ℕ → ℕ → List ℕ → Result (Unit {0}) ℕ → Type 0
 PassesPointers count upper bytes (Ok done) =
-    (upper + room_of (lens_at bytes count) ≡ 8184) × ((gap : ℕ) → bad_place (pointers count gap upper 8184 []) bytes 24 ≡ bad_place (fixed (zeros gap) (stack (lens_at bytes count))) bytes (24 + 4 * count))
-PassesPointers count upper bytes (Err bad) = (gap : ℕ) → bad_place (pointers count gap upper 8184 []) bytes 24 ≡ bad
+    (upper + room_of (lens_at bytes count) ≡ PAGE_END) × ((gap : ℕ) → bad_place (pointers count gap upper PAGE_END []) bytes 24 ≡ bad_place (fixed (zeros gap) (stack (lens_at bytes count))) bytes (24 + 4 * count))
+PassesPointers count upper bytes (Err bad) = (gap : ℕ) → bad_place (pointers count gap upper PAGE_END []) bytes 24 ≡ bad
 
 -- a header, with where the line pointers end and where the items begin
 abbrev pub FindsEnds : List ℕ → Result (ℕ × ℕ) ℕ → Type 0
 FindsEnds bytes (Ok ends) =
     let lower = ends.0 in
-    let upper = ends.1 in InHalf 24 2744 4 lower × InHalf (least_upper lower) (most_upper lower) 8 upper × (first_bad page bytes ≡ bad_place (pointers ((lower - 24) / 4) (upper - lower) upper 8184 []) bytes 24)
+    let upper = ends.1 in InHalf 24 2744 4 lower × InHalf (least_upper lower) (most_upper lower) 8 upper × (first_bad page bytes ≡ bad_place (pointers ((lower - 24) / 4) (upper - lower) upper PAGE_END []) bytes 24)
 FindsEnds bytes (Err bad) = first_bad page bytes ≡ bad

@@ -1,6 +1,7 @@
 -- The one spelling of each page as 8,192 bytes, laid out as PostgreSQL does. Numbers have their low byte first.
 use Rattle.std.specs.Prelude.{ℕ, ◌+◌, ◌-◌, ◌*◌, ◌^◌, List, [], ◌∷◌, ◌++◌, length, Option, Some, None, replicate}
 use Rattle.std.specs.Int.{w16, w32, w64, to_le_bytes}
+use Rattle.index_sizes.specs.declared.limits.TheConstants.{PAGE_END}
 use Rattle.page_bytes.specs.Content.{Content, round8, lower_of, upper_of}
 use Rattle.page_bytes.specs.declared.kind.PageKind.{PageKind}
 use Rattle.page_bytes.specs.declared.kind.PageKind.TheVariants.{Meta, Hnsw, IvfLists, IvfEntries}
@@ -11,7 +12,7 @@ zeros n = replicate n 0
 -- pd_lsn, pd_checksum, pd_flags, pd_lower, pd_upper, pd_special, pd_pagesize_version and pd_prune_xid
 unfoldable pub header : ℕ → ℕ → ℕ → List ℕ
 header number lower upper =
-    to_le_bytes w64 number ++ (to_le_bytes w16 0 ++ (to_le_bytes w16 0 ++ (to_le_bytes w16 lower ++ (to_le_bytes w16 upper ++ (to_le_bytes w16 8184 ++ (to_le_bytes w16 0x2004 ++ to_le_bytes w32 0))))))
+    to_le_bytes w64 number ++ (to_le_bytes w16 0 ++ (to_le_bytes w16 0 ++ (to_le_bytes w16 lower ++ (to_le_bytes w16 upper ++ (to_le_bytes w16 PAGE_END ++ (to_le_bytes w16 0x2004 ++ to_le_bytes w32 0))))))
 
 -- an item's place in bits 0 to 14, the flags 1 in bits 15 and 16, and its length in bits 17 to 31
 unfoldable pub line_pointer : ℕ → ℕ → List ℕ
@@ -49,4 +50,4 @@ unfoldable pub spelling : Content → List ℕ
 spelling p =
     let lower = lower_of p.items in
     let upper = upper_of p.items in
-    header p.number lower upper ++ (line_pointers 8184 p.items ++ (zeros (upper - lower) ++ (stacked p.items ++ special p.next p.kind)))
+    header p.number lower upper ++ (line_pointers PAGE_END p.items ++ (zeros (upper - lower) ++ (stacked p.items ++ special p.next p.kind)))

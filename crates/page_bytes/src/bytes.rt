@@ -6,17 +6,18 @@ ghost use Rattle.page_bytes.specs.Decoding.{half_at, word_at, long_at, named_by}
 ghost use Rattle.page_bytes.specs.Spelling.{line_pointer};
 ghost use Rattle.page_bytes.specs.Splice.{spliced};
 
+use index_sizes::{PAGE_END, PAGE_SIZE};
 use crate::change::ItemChange;
 
 /// How many bytes a page has.
-pub const SIZE: usize = 8192;
+pub const SIZE: usize = PAGE_SIZE;
 
 /// The places of `pd_lower`, `pd_upper`, the next block and the kind. The special space begins with the next block.
 pub const LOWER: usize = 12;
 
 pub const UPPER: usize = 14;
 
-pub const NEXT: usize = 8184;
+pub const NEXT: usize = PAGE_END as usize;
 
 pub const KIND: usize = 8190;
 
@@ -67,7 +68,7 @@ pub fn named(bytes: &[u8], pointer: u32) -> &[u8]
 /// The least multiple of 8 that is at least the length of an item.
 #[tactic(auto, unfolding(crate::specs::Content::round8))]
 pub fn rounded(len: usize) -> u16
-    requires { len ≤ 8184 }
+    requires { len ≤ PAGE_END }
     ensures { result ≡ round8 len }
 {
     (len as u16 + 7) / 8 * 8
@@ -77,8 +78,8 @@ pub fn rounded(len: usize) -> u16
 #[tactic(auto, unfolding(crate::specs::Spelling::line_pointer))]
 pub fn put_pointer(bytes: &mut [u8], at: usize, place: u16, len: u32)
     requires within { at + 4 ≤ length bytes.old }
-    requires place { place ≤ 8184 }
-    requires len { len ≤ 8184 }
+    requires place { place ≤ PAGE_END }
+    requires len { len ≤ PAGE_END }
     ensures { bytes.new ≡ spliced bytes.old at (line_pointer place len) }
 {
     let pointer = u32::from(place) + 0x8000 + len * 0x2_0000;

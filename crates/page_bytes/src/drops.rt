@@ -9,11 +9,12 @@ ghost use Rattle.page_bytes.specs.Dropping.{Gathers, Meets};
 ghost use Rattle.page_bytes.specs.Spelling.{zeros, line_pointer};
 ghost use Rattle.page_bytes.specs.Splice.{spliced};
 
+use index_sizes::{PAGE_END, PAGE_SIZE};
 use crate::bytes::{LOWER, UPPER, half, put, put_pointer, rounded, word};
 
 /// Drops the items at rising offsets.
 pub fn drop_from(bytes: &mut [u8], gone: &[u16])
-    requires long { length bytes.old ≡ 8192 }
+    requires long { length bytes.old ≡ PAGE_SIZE }
     requires page { IsSpelled bytes.old }
     requires rising { IsStrictlyIncreasing gone.now }
     requires offsets { All (λ off. 0 < off) gone.now }
@@ -39,7 +40,7 @@ fn gather(bytes: &mut [u8], gone: &[u16], count: u16) -> (u16, u16)
     ensures { Gathers (content bytes.old) gone.now bytes.new (count + 1) result.0 result.1 [] }
 {
     let mut at = 24;
-    let mut top = 8184;
+    let mut top = PAGE_END;
     let mut next = 0;
     for i in 0..count {
         if meets(gone, next, i + 1) {
@@ -66,8 +67,8 @@ fn meets(gone: &[u16], next: usize, off: u16) -> bool
 fn keep(bytes: &mut [u8], at: u16, top: u16, pointer: u32) -> u16
     requires pointer_fits { at + 4 ≤ length bytes.old }
     requires item_fits { pointer % 2 ^ 15 + round8 (pointer / 2 ^ 17) ≤ top }
-    requires within { top ≤ 8184 }
-    requires page { length bytes.old ≡ 8192 }
+    requires within { top ≤ PAGE_END }
+    requires page { length bytes.old ≡ PAGE_SIZE }
     ensures place { result ≡ top - round8 (pointer / 2 ^ 17) }
     ensures after { let place = pointer % 2 ^ 15 in
         let len = pointer / 2 ^ 17 in

@@ -11,6 +11,7 @@ ghost use Rattle.page_bytes.specs.Spelling.{spelling};
 ghost use Rattle.page_bytes.specs.Splice.{with_item};
 ghost use Rattle.page_bytes.specs.declared.kind.PageKind.TheVariants.{IvfEntries};
 
+use index_sizes::{MOST_ITEM, PAGE_END, PAGE_SIZE};
 use crate::bytes::{
     KIND, LOWER, NEXT, SIZE, UPPER, change_part, half, long, named, put, put_pointer, rounded, word,
 };
@@ -122,7 +123,7 @@ impl Page {
     /// item's bytes, rounded up to a multiple of 8, and its line pointer of 4 bytes take more than is free.
     pub fn add_item(&mut self, bytes: &[u8]) -> Option<u16>
         requires some { 0 < length bytes.now }
-        requires small { length bytes.now ≤ 8156 }
+        requires small { length bytes.now ≤ MOST_ITEM }
         ensures refused { IsNone result ↔ (free_of self.old < round8 (length bytes.now) + 4) }
         ensures kept { IfNone result (self.new ≡ self.old) }
         ensures offset { IfSome result (λ off. off ≡ length self.old.items + 1) }
@@ -207,7 +208,7 @@ pub fn read_page(bytes: &[u8]) -> Result<Page, PageFault>
 {
     let whole = first_bytes(bytes);
     let at = first_fault(&whole);
-    if at == 8192 && bytes.len() == SIZE {
+    if at == PAGE_SIZE as u16 && bytes.len() == SIZE {
         return Ok(Page { bytes: whole });
     }
     Err(PageFault {
@@ -217,8 +218,8 @@ pub fn read_page(bytes: &[u8]) -> Result<Page, PageFault>
 
 /// The first 8,192 bytes, where there are fewer with zeros behind them.
 fn first_bytes(bytes: &[u8]) -> [u8; SIZE]
-    ensures long { length result ≡ 8192 }
-    ensures same { let count = min (length bytes.now) 8192 in
+    ensures long { length result ≡ PAGE_SIZE }
+    ensures same { let count = min (length bytes.now) PAGE_SIZE in
         take count result ≡ take count bytes.now }
 {
     let mut whole = [0; SIZE];
@@ -230,9 +231,9 @@ fn first_bytes(bytes: &[u8]) -> [u8; SIZE]
 /// Writes an item that has room, its line pointer, and where both end now: `lower` is where the line pointers
 /// end, and `place` is where the item goes.
 fn place_item(bytes: &mut [u8], lower: u16, place: u16, item: &[u8])
-    requires long { length bytes.old ≡ 8192 }
+    requires long { length bytes.old ≡ PAGE_SIZE }
     requires room { lower + 4 ≤ place }
-    requires fits { place + length item.now ≤ 8184 }
+    requires fits { place + length item.now ≤ PAGE_END }
     ensures { bytes.new ≡ with_item bytes.old lower place item.now }
 {
     put(bytes, usize::from(place), item);

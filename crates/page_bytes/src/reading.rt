@@ -6,6 +6,7 @@ ghost use Rattle.page_bytes.specs.Decoding.{half_at};
 ghost use Rattle.page_bytes.specs.Format.Format.{Done};
 ghost use Rattle.page_bytes.specs.Format.{Format, page, ending, stack, pointers, fixed, begins_half, is_half, bad_place, first_bad, behind_upper, Passes, PassesPointers, FindsHalf, FindsPlace, FindsEnds, InHalf, Allows, Room, lens_at, room_of, least_upper, most_upper};
 
+use index_sizes::{PAGE_END, PAGE_SIZE};
 use crate::bytes::{NEXT, half, long, rounded, word};
 
 /// Whether a half word is a multiple of a step, from low to high.
@@ -30,8 +31,8 @@ fn may_begin(low: u16, high: u16, step: u16, first: u8) -> bool
 
 /// Reads such a half word, or gives the place where it goes wrong.
 fn half_in(bytes: &[u8], at: u16, low: u16, high: u16, step: u16) -> Result<u16, u16>
-    requires long { length bytes.now ≡ 8192 }
-    requires within { at + 2 ≤ 8192 }
+    requires long { length bytes.now ≡ PAGE_SIZE }
+    requires within { at + 2 ≤ PAGE_SIZE }
     requires positive { 0 < step }
     requires whole { 256 % step ≡ 0 }
     ensures { FindsHalf low high step bytes.now at result }
@@ -48,8 +49,8 @@ fn half_in(bytes: &[u8], at: u16, low: u16, high: u16, step: u16) -> Result<u16,
 
 /// Finds the first byte that is not the one wanted there.
 fn fixed_in(bytes: &[u8], at: u16, want: &[u8]) -> Result<(), u16>
-    requires long { length bytes.now ≡ 8192 }
-    requires within { at + length want.now ≤ 8192 }
+    requires long { length bytes.now ≡ PAGE_SIZE }
+    requires within { at + length want.now ≤ PAGE_SIZE }
     ensures { (next : Format) → Passes (fixed want.now next) next bytes.now at (at + length want.now) result }
 {
     for (i, b) in want.iter().enumerate() {
@@ -82,9 +83,9 @@ fn past_zeros(bytes: &[u8], from: usize, to: usize) -> usize
 
 /// Finds the first byte that is not 0.
 fn zeros_in(bytes: &[u8], from: u16, to: u16) -> Result<(), u16>
-    requires long { length bytes.now ≡ 8192 }
+    requires long { length bytes.now ≡ PAGE_SIZE }
     requires order { from ≤ to }
-    requires within { to ≤ 8192 }
+    requires within { to ≤ PAGE_SIZE }
     ensures { (next : Format) → Passes (fixed (zeros (to - from)) next) next bytes.now from to result }
 {
     let at = past_zeros(bytes, usize::from(from), usize::from(to)) as u16;
@@ -94,8 +95,8 @@ fn zeros_in(bytes: &[u8], from: u16, to: u16) -> Result<(), u16>
 /// Reads the line pointer of an item that lies right below a top, at a place from least to most, and gives its
 /// place.
 fn pointer_in(bytes: &[u8], at: u16, least: u16, most: u16, top: u16) -> Result<u16, u16>
-    requires long { length bytes.now ≡ 8192 }
-    requires within { at + 4 ≤ 8192 }
+    requires long { length bytes.now ≡ PAGE_SIZE }
+    requires within { at + 4 ≤ PAGE_SIZE }
     requires allows { Allows least most top }
     ensures { FindsPlace least most top bytes.now at result }
 {
@@ -115,11 +116,11 @@ fn most_place(left: u16, upper: u16, top: u16) -> u16
 
 /// Reads the line pointers of items that lie from a place to the special space.
 fn pointers_in(bytes: &[u8], count: u16, upper: u16) -> Result<(), u16>
-    requires long { length bytes.now ≡ 8192 }
-    requires room { Room count upper 8184 }
+    requires long { length bytes.now ≡ PAGE_SIZE }
+    requires room { Room count upper PAGE_END }
     ensures { PassesPointers count upper bytes.now result }
 {
-    let mut top = 8184;
+    let mut top = PAGE_END;
     for i in 0..count {
         let left = count - i - 1;
         let most = most_place(left, upper, top);
@@ -130,10 +131,10 @@ fn pointers_in(bytes: &[u8], count: u16, upper: u16) -> Result<(), u16>
 
 /// Reads the items, of which only the bytes that fill them up to a multiple of 8 are told, from the last to the first.
 fn stack_in(bytes: &[u8], count: u16, upper: u16) -> Result<(), u16>
-    requires long { length bytes.now ≡ 8192 }
-    requires few { 24 + 4 * count ≤ 8184 }
-    requires room { upper + room_of (lens_at bytes.now count) ≡ 8184 }
-    ensures { Passes (stack (lens_at bytes.now count)) ending bytes.now upper 8184 result }
+    requires long { length bytes.now ≡ PAGE_SIZE }
+    requires few { 24 + 4 * count ≤ PAGE_END }
+    requires room { upper + room_of (lens_at bytes.now count) ≡ PAGE_END }
+    ensures { Passes (stack (lens_at bytes.now count)) ending bytes.now upper PAGE_END result }
 {
     let mut at = upper;
     let mut left = count;
@@ -156,8 +157,8 @@ fn least_kind(next: u32) -> u16
 
 /// Reads the special space.
 fn ending_in(bytes: &[u8]) -> Result<(), u16>
-    requires { length bytes.now ≡ 8192 }
-    ensures { Passes ending Done bytes.now 8184 8192 result }
+    requires { length bytes.now ≡ PAGE_SIZE }
+    ensures { Passes ending Done bytes.now PAGE_END PAGE_SIZE result }
 {
     let next = word(bytes, NEXT);
     fixed_in(bytes, 8188, &[0, 0])?;
@@ -169,27 +170,27 @@ fn ending_in(bytes: &[u8]) -> Result<(), u16>
 fn least_end(lower: u16) -> u16
     ensures { result ≡ least_upper lower }
 {
-    if lower == 24 { 8184 } else { lower }
+    if lower == 24 { PAGE_END } else { lower }
 }
 
 /// Reads where the line pointers end and where the items begin, and what else the header holds.
 fn header_in(bytes: &[u8]) -> Result<(u16, u16), u16>
-    requires { length bytes.now ≡ 8192 }
+    requires { length bytes.now ≡ PAGE_SIZE }
     ensures { FindsEnds bytes.now result }
 {
     fixed_in(bytes, 8, &[0, 0, 0, 0])?;
     let lower = half_in(bytes, 12, 24, 2744, 4)?;
-    let upper = half_in(bytes, 14, least_end(lower), 8184 - 2 * (lower - 24), 8)?;
+    let upper = half_in(bytes, 14, least_end(lower), PAGE_END - 2 * (lower - 24), 8)?;
     fixed_in(bytes, 16, &[0xF8, 0x1F, 0x04, 0x20, 0, 0, 0, 0])?;
     Ok((lower, upper))
 }
 
 /// Reads what lies behind the header.
 fn items_in(bytes: &[u8], lower: u16, upper: u16) -> Result<(), u16>
-    requires long { length bytes.now ≡ 8192 }
+    requires long { length bytes.now ≡ PAGE_SIZE }
     requires lower_in { InHalf 24 2744 4 lower }
     requires upper_in { InHalf (least_upper lower) (most_upper lower) 8 upper }
-    ensures { Passes (pointers ((lower - 24) / 4) (upper - lower) upper 8184 []) Done bytes.now 24 8192 result }
+    ensures { Passes (pointers ((lower - 24) / 4) (upper - lower) upper PAGE_END []) Done bytes.now 24 PAGE_SIZE result }
 {
     let count = (lower - 24) / 4;
     pointers_in(bytes, count, upper)?;
@@ -201,8 +202,8 @@ fn items_in(bytes: &[u8], lower: u16, upper: u16) -> Result<(), u16>
 
 /// Reads a whole page.
 fn page_in(bytes: &[u8]) -> Result<(), u16>
-    requires { length bytes.now ≡ 8192 }
-    ensures { MatchResult result (λ _. first_bad page bytes.now ≡ 8192) (λ bad. first_bad page bytes.now ≡ bad) }
+    requires { length bytes.now ≡ PAGE_SIZE }
+    ensures { MatchResult result (λ _. first_bad page bytes.now ≡ PAGE_SIZE) (λ bad. first_bad page bytes.now ≡ bad) }
 {
     let (lower, upper) = header_in(bytes)?;
     items_in(bytes, lower, upper)?;
@@ -211,11 +212,11 @@ fn page_in(bytes: &[u8]) -> Result<(), u16>
 
 /// The first place that no page with the same earlier bytes has, and 8,192 where the bytes are a page.
 pub fn first_fault(bytes: &[u8]) -> u16
-    requires { length bytes.now ≡ 8192 }
+    requires { length bytes.now ≡ PAGE_SIZE }
     ensures { result ≡ first_bad page bytes.now }
 {
     match page_in(bytes) {
-        Ok(()) => 8192,
+        Ok(()) => PAGE_SIZE as u16,
         Err(at) => at,
     }
 }

@@ -3,6 +3,7 @@ use Rattle.std.proofs.Common.{◌≡◌, ℕ, Bool, true, false, ◌&&◌, List,
 use Rattle.std.specs.Prelude.{nat_lt}
 use Rattle.std.proofs.lemmas.Bool.{false_from_ne_true, ltb-true}
 use Rattle.std.specs.Option.{option_map, option_and_then}
+use Rattle.index_sizes.specs.Sizes.{next_version}
 use Rattle.vec_names.specs.declared.tid.Tid.{Tid}
 use Rattle.vec_names.specs.declared.heap_id.HeapId.{HeapId}
 use Rattle.vec_names.specs.declared.params.Params.{Params}
@@ -13,7 +14,6 @@ use Rattle.vec_tuples.specs.declared.links.Links.{Links}
 use Rattle.vec_tuples.specs.Spelling.{element_bytes, head_bytes, head_of_element, head_of_links, links_bytes, links_with}
 use Rattle.byte_fields.specs.Reading.{field, byte_from}
 use Rattle.vec_tuples.specs.Reading.{element, links}
-use Rattle.vec_graph.specs.Effect.{next_version}
 use Rattle.page_redo.specs.Items.{in_whole, with_item, with_head, head_changed, links_changed, element_at, links_at, is_graph, is_graph_page}
 use Rattle.page_redo.specs.Roles.{if_so, on_graph, put, put_element, put_links, is_node, is_old_element, are_old_links, new_element, is_current, marked, emptied}
 use Rattle.page_redo.specs.declared.fault.RedoFault.{RedoFault}

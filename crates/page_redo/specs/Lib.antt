@@ -1,8 +1,3 @@
 pub mod Items
 pub mod Roles
 pub mod Redo
-pub mod Standing
-pub mod Naming
-pub mod Filling
-pub mod Effects
-pub mod Fitting

@@ -2,8 +2,8 @@
 use Rattle.std.specs.Prelude.{◌≡◌, ℕ, ◌==◌, if◌then◌else◌, List, [], ◌∷◌, Option, Some, None, Result, Ok, Err}
 use Rattle.std.specs.Option.{option_map, option_and_then}
 use Rattle.vec_names.specs.declared.params.Params.{Params}
-use Rattle.vec_event.specs.declared.event.Event.{Event}
-use Rattle.vec_event.specs.declared.event.Event.TheVariants.{Put, Join, Link, Relist, Drop, Mark, Entry, Hint, IvfAdd, IvfGrow, IvfDrop, IvfHint}
+use Rattle.vec_history.specs.declared.event.Event.{Event}
+use Rattle.vec_history.specs.declared.event.Event.TheVariants.{Put, Join, Link, Relist, Drop, Mark, Entry, Hint, IvfAdd, IvfGrow, IvfDrop, IvfHint}
 use Rattle.page_bytes.specs.Content.{Content}
 use Rattle.page_redo.specs.declared.fault.RedoFault.{RedoFault}
 use Rattle.page_redo.specs.Items.{head_changed, links_changed, meta_changed}

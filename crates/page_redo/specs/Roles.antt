@@ -1,6 +1,9 @@
 -- The role of an event at a place that it names: what it makes of the page there. There is nothing where the page lacks
 -- what the event needs.
 use Rattle.std.specs.Prelude.{ℕ, ◌+◌, ◌*◌, ◌/◌, ◌%◌, ◌^◌, ◌==◌, ◌&&◌, not, nat_le, nat_lt, List, [], ◌∷◌, ◌++◌, length, replicate, slice_set, Bool, true, false, Option, Some, None, if◌then◌else◌}
+use Rattle.index_sizes.specs.declared.limits.TheConstants.{MOST_BLOCKS, MOST_SLOTS}
+use Rattle.index_sizes.specs.Sizes.{next_version, slots_of_level, centres_on_page}
+use Rattle.list_values.specs.Masks.{kept}
 use Rattle.vec_names.specs.declared.tid.Tid.{Tid}
 use Rattle.vec_names.specs.declared.heap_id.HeapId.{HeapId}
 use Rattle.vec_names.specs.declared.params.Params.{Params}
@@ -10,7 +13,6 @@ use Rattle.vec_tuples.specs.declared.element.Element.{Element}
 use Rattle.vec_tuples.specs.declared.element.ElementHead.{ElementHead}
 use Rattle.vec_tuples.specs.declared.links.Links.{Links}
 use Rattle.vec_tuples.specs.Spelling.{element_bytes, element_with, head_with, links_bytes, links_with, entry_bytes, row_with, centre_with}
-use Rattle.vec_graph.specs.Effect.{kept, next_version}
 use Rattle.page_redo.specs.Items.{element_at, links_at, with_item, added, centre_changed, is_graph, is_meta_page, is_graph_page, is_lists_page, is_entries_page}
 
 abbrev pub Role : Type 0
@@ -71,7 +73,7 @@ on_graph p role c = if_so (is_graph p.kind && is_graph_page c.kind) (role c)
 -- the value is of the index's length, the list is of the level's length, and both have tuples
 abbrev pub is_node : Params → ℕ → ℕ → List Bool → List (Option Tid) → Bool
 is_node p version level bits lists =
-    nat_le 1 version && (length bits == p.bits && (length lists == (level + 2) * p.m && nat_le (length lists) 1358))
+    nat_le 1 version && (length bits == p.bits && (length lists == slots_of_level p.m level && nat_le (length lists) MOST_SLOTS))
 
 abbrev pub is_old_element : ℕ → Option Element → Bool
 is_old_element version None = false
@@ -119,7 +121,7 @@ entered to level m =
     when (is_graph m.params.kind && is_level to level) (record m { entry = to; level = level })
 
 abbrev pub hinted : ℕ → Meta → Option Meta
-hinted block m = when (is_graph m.params.kind && (nat_le 1 block && nat_le block 32768)) (record m { hint = block })
+hinted block m = when (is_graph m.params.kind && (nat_le 1 block && nat_le block MOST_BLOCKS)) (record m { hint = block })
 
 abbrev pub on_meta : Role → Role
 on_meta role c = if_so (is_meta_page c.kind) (role c)
@@ -152,15 +154,12 @@ rises low high (off ∷ offs) = nat_lt low off && (nat_le off high && rises off 
 abbrev pub entries_dropped : Params → List ℕ → Role
 entries_dropped p gone = on_entries p (λ c. when (rises 0 (length c.items) gone) (record c { items = others gone 1 c.items }))
 
--- how many list tuples a page holds, and where that of a list stands
-abbrev pub lists_on_page : Params → ℕ
-lists_on_page p = 8160 / (round8 (20 + (p.bits + 7) / 8) + 4)
-
+-- where the tuple of a list stands
 abbrev pub list_block : Params → ℕ → ℕ
-list_block p list = 1 + list / lists_on_page p
+list_block p list = 1 + list / centres_on_page p.bits
 
 abbrev pub list_offset : Params → ℕ → ℕ
-list_offset p list = 1 + list % lists_on_page p
+list_offset p list = 1 + list % centres_on_page p.bits
 
 -- the list looks for room at this block
 abbrev pub aimed : Params → ℕ → ℕ → Role

@@ -9,10 +9,11 @@ ghost use Rattle.page_redo.specs.Items.{head_changed, links_changed};
 ghost use Rattle.page_redo.specs.Roles.{on_graph, marked, emptied, may_put, put, put_element, put_links, grown, chained};
 ghost use Rattle.page_redo.specs.Redo.{Becomes};
 
+use index_sizes::{MOST_ITEM, item_need, next_version};
 use crate::changes::put_no_slots;
 use crate::fault::RedoFault;
 use crate::graph::mark;
-use crate::heads::{is_current, next_version};
+use crate::heads::is_current;
 use crate::items::links_head_at;
 use crate::kinds::is_on_graph;
 use crate::lists::{chain, grow};
@@ -59,8 +60,8 @@ fn fits_after(
     list_long: usize,
 ) -> bool
     requires apart { off ≡ list_off → ⊥ }
-    requires small { long ≤ 8156 }
-    requires list_small { list_long ≤ 8156 }
+    requires small { long ≤ MOST_ITEM }
+    requires list_small { list_long ≤ MOST_ITEM }
     ensures { (may_go : Bool) (x y : List ℕ) (after : Content) → length x ≡ long → length y ≡ list_long → put off may_go x page.now ≡ Some after → result ≡ is_some (put list_off list_may_go y after) }
 {
     match item_long(page, off) {
@@ -72,7 +73,7 @@ fn fits_after(
 /// Whether an item of so many bytes can be put at an offset, once the page has `more` items more, one or none, which
 /// took `taken` bytes of its room.
 fn fits(page: &Page, off: u16, may_go: bool, long: usize, more: usize, taken: usize) -> bool
-    requires small { long ≤ 8156 }
+    requires small { long ≤ MOST_ITEM }
     requires more { more ≤ 1 }
     requires taken { taken ≤ 8164 }
     ensures { result ≡ may_put (item_at page.now.items off) off may_go long (length page.now.items + more + 1) (free_of page.now - taken) }
@@ -89,11 +90,11 @@ fn fits(page: &Page, off: u16, may_go: bool, long: usize, more: usize, taken: us
 /// How many bytes an item takes with its line pointer.
 #[tactic(auto, unfolding(page_bytes::specs::Content::round8))]
 fn room(long: usize) -> usize
-    requires { long ≤ 8156 }
+    requires { long ≤ MOST_ITEM }
     ensures told { result ≡ round8 long + 4 }
     ensures small { result ≤ 8164 }
 {
-    (long + 7) / 8 * 8 + 4
+    item_need(long as u64) as usize
 }
 
 /// A node is deleted: its element, and then its list, which is not at the same offset.

@@ -10,15 +10,13 @@ ghost use Rattle.vec_tuples.specs.declared.meta.Meta.{Meta as MetaTuple};
 ghost use Rattle.vec_tuples.specs.Spelling.{IsMeta, element_bytes, element_with, links_bytes, meta_bytes, centre_bytes, centre_with, links_with};
 ghost use Rattle.page_redo.specs.Items.{with_item, with_head};
 
+use index_sizes::MOST_SLOTS;
 use bit_code::Bits;
 use page_bytes::{ItemChange, Page};
 use vec_names::Tid;
 use vec_tuples::{
     ElementHead, Meta, fill_element, fill_links, fill_meta, set_aim, set_head, set_slot,
 };
-
-/// The most slots of a neighbour tuple.
-const MOST_SLOTS: usize = 1358;
 
 /// An element gets this head.
 #[derive(Drop)]
@@ -90,10 +88,11 @@ struct NoSlots {
 }
 
 impl ItemChange for NoSlots {
+    ghost use Rattle.index_sizes.specs.declared.limits.TheConstants.{MOST_SLOTS};
     ghost use Rattle.std.specs.Prelude.{◌≡◌, ◌≤◌, ◌+◌, ◌*◌, length, true, replicate, None};
     ghost use Rattle.vec_tuples.specs.Spelling.{links_bytes, links_with};
 
-    ghost fits = { λ change old. (change.count ≤ 1358) × (length old ≡ 4 + 6 * change.count) };
+    ghost fits = { λ change old. (change.count ≤ MOST_SLOTS) × (length old ≡ 4 + 6 * change.count) };
 
     ghost makes = { λ change old new. new ≡ links_bytes (links_with true change.version (replicate change.count None)) };
 
@@ -206,7 +205,7 @@ pub fn put_slots(page: &mut Page, off: u16, version: u8, tids: &[Option<Tid>])
 /// Makes the neighbour tuple at an offset that of a deleted element of this version, with as many slots.
 pub fn put_no_slots(page: &mut Page, off: u16, version: u8, count: u16)
     requires there { (l : Links) × (item_at page.old.items off ≡ Some (links_bytes l)) × (length l.tids ≡ count) }
-    requires few { count ≤ 1358 }
+    requires few { count ≤ MOST_SLOTS }
     ensures { page.new ≡ with_item page.old off (links_bytes (links_with true version (replicate count None))) }
 {
     page.change_item(off, &NoSlots { version, count });

@@ -12,7 +12,7 @@ use crate::lists::{add_entry, aim, chain, drop_entries, grow};
 use crate::put::{NewNode, put_element, put_links};
 use bit_code::Bits;
 use page_bytes::Page;
-use vec_event::Event;
+use vec_history::Event;
 use vec_names::{HeapId, Params, Tid};
 
 /// Does to the page of a block what an event does to it, and gives the page the event's number. `params` are the

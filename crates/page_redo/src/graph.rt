@@ -6,9 +6,10 @@ ghost use Rattle.page_redo.specs.Items.{head_changed, links_changed, meta_change
 ghost use Rattle.page_redo.specs.Roles.{on_graph, on_meta, joined, dropped, marked, linked, relisted, emptied, entered, hinted, is_level};
 ghost use Rattle.page_redo.specs.Redo.{at_one, Becomes};
 
+use index_sizes::{MOST_BLOCKS, next_version};
 use crate::changes::{put_head, put_meta, put_no_slots, put_slot, put_slots};
 use crate::fault::RedoFault;
-use crate::heads::{dropped, is_current, joined, marked, next_version};
+use crate::heads::{dropped, is_current, joined, marked};
 use crate::items::{head_at, links_head_at, meta_of};
 use crate::kinds::{is_graph, is_on_graph, is_on_meta};
 use page_bytes::Page;
@@ -208,7 +209,7 @@ pub fn hint(page: &mut Page, block: u32, hint: u32) -> Result<(), RedoFault>
     let Some(meta) = meta_of(page) else {
         return Err(RedoFault::Unfit);
     };
-    if !is_graph(meta.params.kind) || hint < 1 || hint > 32_768 {
+    if !is_graph(meta.params.kind) || hint < 1 || hint > MOST_BLOCKS {
         return Err(RedoFault::Unfit);
     }
     put_meta(page, Meta { hint, ..meta });

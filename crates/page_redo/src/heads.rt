@@ -1,10 +1,11 @@
 //! What an event makes of an element's head.
 
 ghost use Rattle.std.specs.Prelude.{◌≡◌, ◌≤◌, ◌^◌, ◌&&◌, ◌∷◌, [], ◌++◌, ◌%◌, ◌==◌, ◌<◌, nat_lt, length, if◌then◌else◌};
-ghost use Rattle.vec_graph.specs.Effect.{kept, next_version};
+ghost use Rattle.list_values.specs.Masks.{kept};
 ghost use Rattle.page_redo.specs.Roles.{joined, dropped, marked, is_current};
 
 use arrayvec::ArrayVec;
+use index_sizes::next_version;
 use vec_names::HeapId;
 use vec_tuples::ElementHead;
 
@@ -13,17 +14,6 @@ pub fn is_current(deleted: bool, found: u8, version: u8) -> bool
     ensures { result ≡ is_current deleted found version }
 {
     !deleted && found == version
-}
-
-/// The version after this one.
-pub fn next_version(wrap: u8, version: u8) -> u8
-    ensures { result ≡ next_version wrap version }
-{
-    if version == wrap || version == 255 {
-        1
-    } else {
-        version + 1
-    }
 }
 
 /// The head with one more id, its last, of at most ten.

@@ -2,14 +2,9 @@
 
 ghost use Rattle.std.specs.Prelude.{◌≡◌, ◌<◌, ◌≤◌, ℕ, List, Some, None, Contains, length};
 ghost use Rattle.vec_names.specs.declared.params.Params.{Params as AnyParams};
-ghost use Rattle.vec_event.specs.declared.event.Event.{Event as Events};
+ghost use Rattle.vec_history.specs.declared.event.Event.{Event as Events};
 ghost use Rattle.page_bytes.specs.Content.{Content, item_at};
-ghost use Rattle.vec_names.specs.declared.tid.Tid.{Tid as Place};
-ghost use Rattle.vec_graph.specs.declared.node.Node.{Node};
-ghost use Rattle.vec_graph.specs.declared.graph.Graph.{Graph};
-ghost use Rattle.vec_graph.specs.Graph.{node_at};
 ghost use Rattle.page_redo.specs.Redo.{changed, touched, named, AreEntriesDropped};
-ghost use Rattle.page_redo.specs.Standing.{Stands, IsFirstBroken};
 
 /// A law, and no work. An event fits no page of a block that it does not touch.
 pub fn law_elsewhere()
@@ -20,13 +15,4 @@ pub fn law_elsewhere()
 pub fn law_others()
     ensures { (event : Events) (p : AnyParams) (wrap block : ℕ) (page after : Content) → changed event p wrap block page ≡ Some after
         → ¬ AreEntriesDropped event → (off : ℕ) → off ≤ length page.items → ¬ Contains (named event p) (block, off) → item_at after.items off ≡ item_at page.items off }
-{}
-
-/// A law, and no work. Of pages that stand for a graph no block breaks a rule, they stand for no other graph, and each node
-/// of the graph stands on one of its blocks.
-pub fn law_standing()
-    ensures whole { (pages : List Content) (g : Graph) (block : ℕ) → Stands pages g → ¬ IsFirstBroken pages block }
-    ensures one_graph { (pages : List Content) (g h : Graph) → Stands pages g → Stands pages h → g ≡ h }
-    ensures on_blocks { (pages : List Content) (g : Graph) (at : Place) (n : Node) → Stands pages g → node_at g at ≡ Some n
-        → at.block < g.blocks }
 {}

@@ -7,14 +7,15 @@ ghost use Rattle.page_bytes.specs.Content.{item_at, round8};
 ghost use Rattle.vec_tuples.specs.Spelling.{entry_bytes, row_with, centre_bytes};
 ghost use Rattle.vec_tuples.specs.declared.centre.CentreTuple.{CentreTuple};
 ghost use Rattle.page_redo.specs.Items.{added, centre_at};
-ghost use Rattle.page_redo.specs.Roles.{entry_added, grown, chained, rises, entries_dropped, lists_on_page, list_block, list_offset, aimed};
+ghost use Rattle.page_redo.specs.Roles.{entry_added, grown, chained, rises, entries_dropped, list_block, list_offset, aimed};
 ghost use Rattle.page_redo.specs.Redo.{at_one, Becomes};
 
+use index_sizes::{MOST_ITEM, centres_on_page, entry_size};
 use crate::changes::put_aim;
 use crate::fault::RedoFault;
 use crate::items::centre_head_at;
 use crate::kinds::{is_on_entries, is_on_lists};
-use crate::put::{MOST, append};
+use crate::put::append;
 use bit_code::Bits;
 use page_bytes::Page;
 use vec_names::{HeapId, Params};
@@ -43,8 +44,8 @@ pub fn add_entry(
 fn append_entry(page: &mut Page, id: HeapId, bits: &Bits) -> Result<(), RedoFault>
     ensures { Becomes (added (entry_bytes (row_with id bits.now)) page.old) page.old page.new result }
 {
-    let mut buffer = [0; MOST];
-    let long = 16 + (bits.count() as usize + 7) / 8;
+    let mut buffer = [0; MOST_ITEM];
+    let long = entry_size(bits.count()) as usize;
     let item = &mut buffer[..long];
     fill_entry(id, bits, item);
     append(page, item)
@@ -141,25 +142,12 @@ pub fn aim(
     Ok(())
 }
 
-/// How many list tuples a page holds.
-#[tactic(auto, unfolding(page_bytes::specs::Content::round8))]
-fn lists_on_page(params: &Params) -> u32
-    requires { IsInRange params.now }
-    ensures told { result ≡ lists_on_page params.now }
-    ensures some { 1 ≤ result }
-    ensures few { result ≤ 8160 }
-{
-    let bits = params.bits;
-    let long = 20 + (bits + 7) / 8;
-    8160 / ((long + 7) / 8 * 8 + 4)
-}
-
 /// The block of a list's tuple.
 fn list_block(params: &Params, list: u32) -> u64
     requires { IsInRange params.now }
     ensures { result ≡ list_block params.now list }
 {
-    1 + u64::from(list / lists_on_page(params))
+    1 + u64::from(list) / centres_on_page(params.bits)
 }
 
 /// The offset of a list's tuple on its page.
@@ -167,5 +155,5 @@ fn list_offset(params: &Params, list: u32) -> u16
     requires { IsInRange params.now }
     ensures { result ≡ list_offset params.now list }
 {
-    (1 + list % lists_on_page(params)) as u16
+    (1 + u64::from(list) % centres_on_page(params.bits)) as u16
 }

@@ -2,6 +2,7 @@
 
 ghost use Rattle.std.specs.Prelude.{◌≡◌, ◌<◌, ◌≤◌, ◌+◌, ◌*◌, ◌/◌, ◌&&◌, ◌==◌, ◌∷◌, [], false, nat_le, length, List, Bool, ℕ};
 ghost use Rattle.std.specs.Option.{option_map};
+ghost use Rattle.index_sizes.specs.Sizes.{element_size, links_size};
 ghost use Rattle.vec_names.specs.Params.{IsInRange};
 ghost use Rattle.page_bytes.specs.Content.{item_at};
 ghost use Rattle.vec_tuples.specs.declared.element.ElementHead.{ElementHead as ElementHeads};
@@ -10,6 +11,7 @@ ghost use Rattle.page_redo.specs.Items.{added, element_at, links_at};
 ghost use Rattle.page_redo.specs.Roles.{if_so, put, put_element, put_links, is_node, is_old_element, are_old_links};
 ghost use Rattle.page_redo.specs.Redo.{Becomes};
 
+use index_sizes::{MOST_ITEM, MOST_SLOTS, element_size, links_size, slots_of_level};
 use crate::changes::{put_element_over, put_links_over};
 use crate::fault::RedoFault;
 use crate::items::{head_at, links_head_at};
@@ -20,13 +22,10 @@ use page_bytes::Page;
 use vec_names::{HeapId, Params, Tid};
 use vec_tuples::{ElementHead, fill_element, fill_links};
 
-/// The most bytes that an item may have.
-pub const MOST: usize = 8156;
-
 /// Adds an item of 1 to 8,156 bytes behind the last one.
 pub fn append(page: &mut Page, x: &[u8]) -> Result<(), RedoFault>
     requires some { 0 < length x.now }
-    requires small { length x.now ≤ 8156 }
+    requires small { length x.now ≤ MOST_ITEM }
     ensures { Becomes (added x.now page.old) page.old page.new result }
 {
     match page.add_item(x) {
@@ -48,7 +47,7 @@ pub fn item_long(page: &Page, off: u16) -> Option<usize>
 /// Adds an item of 1 to 8,156 bytes behind the last one, where the offset is the next.
 fn put_behind(page: &mut Page, off: u16, x: &[u8]) -> Result<(), RedoFault>
     requires some { 0 < length x.now }
-    requires small { length x.now ≤ 8156 }
+    requires small { length x.now ≤ MOST_ITEM }
     ensures { Becomes (if_so (off == length page.old.items + 1) (added x.now page.old)) page.old page.new result }
 {
     if off == 0 || off - 1 != page.count() {
@@ -76,15 +75,8 @@ pub fn is_node(params: &Params, node: NewNode) -> bool
 {
     node.version >= 1
         && node.bits.count() == params.bits
-        && node.lists.len() == slots_of(node.level, params.m)
-        && node.lists.len() <= 1358
-}
-
-/// How many slots a node of this level has.
-fn slots_of(level: u8, m: u16) -> usize
-    ensures { result ≡ (level + 2) * m }
-{
-    (usize::from(level) + 2) * usize::from(m)
+        && node.lists.len() as u64 == slots_of_level(params.m, node.level)
+        && node.lists.len() <= MOST_SLOTS
 }
 
 /// Whether the element of a deleted node of this version stands at an offset.
@@ -126,23 +118,23 @@ pub fn new_head(list_at: Tid, version: u8, level: u8, id: HeapId) -> ElementHead
 
 /// How many bytes the element of a value has.
 pub fn element_long(bits: &Bits) -> usize
-    ensures told { result ≡ 80 + (length bits.now + 7) / 8 }
-    ensures small { result ≤ 8156 }
+    ensures told { result ≡ element_size (length bits.now) }
+    ensures small { result ≤ MOST_ITEM }
 
     // Whatever its head.
     ensures spelled { (h : ElementHeads) → length (element_bytes (element_with h bits.now)) ≡ result }
 {
-    80 + (bits.count() as usize + 7) / 8
+    element_size(bits.count()) as usize
 }
 
 /// How many bytes a list of so many slots has.
 pub fn links_long(lists: &[Option<Tid>]) -> usize
-    requires { length lists.now ≤ 1358 }
-    ensures told { result ≡ 4 + 6 * length lists.now }
-    ensures small { result ≤ 8156 }
+    requires { length lists.now ≤ MOST_SLOTS }
+    ensures told { result ≡ links_size (length lists.now) }
+    ensures small { result ≤ MOST_ITEM }
     ensures spelled { (version : ℕ) → length (links_bytes (links_with false version lists.now)) ≡ result }
 {
-    4 + 6 * lists.len()
+    links_size(lists.len() as u64) as usize
 }
 
 /// Puts an element over one that may go and is as long, where it stands; or behind the last item, where the offset is
@@ -174,7 +166,7 @@ fn element_behind(
 ) -> Result<(), RedoFault>
     ensures { Becomes (if_so (off == length page.old.items + 1) (added (element_bytes (element_with head.now bits.now)) page.old)) page.old page.new result }
 {
-    let mut buffer = [0; MOST];
+    let mut buffer = [0; MOST_ITEM];
     let item = &mut buffer[..element_long(bits)];
     fill_element(head, bits, item);
     put_behind(page, off, item)
@@ -189,7 +181,7 @@ pub fn place_links(
     version: u8,
     lists: &[Option<Tid>],
 ) -> Result<(), RedoFault>
-    requires { length lists.now ≤ 1358 }
+    requires { length lists.now ≤ MOST_SLOTS }
     ensures { Becomes (put off may_go (links_bytes (links_with false version lists.now)) page.old) page.old page.new result }
 {
     let Some(long) = item_long(page, off) else {
@@ -208,10 +200,10 @@ fn links_behind(
     version: u8,
     lists: &[Option<Tid>],
 ) -> Result<(), RedoFault>
-    requires { length lists.now ≤ 1358 }
+    requires { length lists.now ≤ MOST_SLOTS }
     ensures { Becomes (if_so (off == length page.old.items + 1) (added (links_bytes (links_with false version lists.now)) page.old)) page.old page.new result }
 {
-    let mut buffer = [0; MOST];
+    let mut buffer = [0; MOST_ITEM];
     let item = &mut buffer[..links_long(lists)];
     fill_links(false, version, lists, item);
     put_behind(page, off, item)

@@ -1,15 +1,15 @@
 //! Each kind of event on a page that it fits, and the causes for which an event does not fit.
 
-use crate::redo;
+use crate::{law_elsewhere, law_others, redo};
 use bit_code::{Bits, read_bits};
 use page_bytes::{Page, PageKind};
 use std::alloc::Global;
 use std::test::*;
-use vec_event::{Event, Gate};
+use vec_history::{Event, Gate};
 use vec_names::{HeapId, Kind, Listed, Ops, Params, Tid};
 
 /// A graph of four places with m 2.
-pub const GRAPH: Params = Params {
+const GRAPH: Params = Params {
     kind: Kind::Hnsw,
     ops: Ops::Hamming,
     bits: 4,
@@ -29,7 +29,7 @@ const LISTS: Params = Params {
 };
 
 /// The element at 1/1 of the row 1/1 with the value 0000, its list at 1/2.
-pub const ELEMENT: [u8; 81] = [
+const ELEMENT: [u8; 81] = [
     1, 0, 0, 1, 0, 0, 1, 0, 1, 0, 255, 255, 255, 255, 0, 0, 255, 255, 255, 255, 0, 0, 255, 255,
     255, 255, 0, 0, 255, 255, 255, 255, 0, 0, 255, 255, 255, 255, 0, 0, 255, 255, 255, 255, 0, 0,
     255, 255, 255, 255, 0, 0, 255, 255, 255, 255, 0, 0, 255, 255, 255, 255, 0, 0, 0, 0, 1, 0, 2, 0,
@@ -37,13 +37,13 @@ pub const ELEMENT: [u8; 81] = [
 ];
 
 /// Its four slots.
-pub const SLOTS: [u8; 28] = [
+const SLOTS: [u8; 28] = [
     2, 1, 4, 0, 255, 255, 255, 255, 0, 0, 255, 255, 255, 255, 0, 0, 255, 255, 255, 255, 0, 0, 255,
     255, 255, 255, 0, 0,
 ];
 
 /// The meta tuple of that graph without an entry point, with the hint 1.
-pub const META: [u8; 32] = [
+const META: [u8; 32] = [
     0x56, 0x54, 0x49, 0x42, 2, 0, 1, 1, 4, 0, 0, 0, 2, 0, 4, 0, 0, 0, 0, 0, 255, 255, 255, 255, 0,
     0, 0, 0, 1, 0, 0, 0,
 ];
@@ -56,14 +56,14 @@ const CENTRE: [u8; 21] = [
     2, 0, 0, 0, 2, 0, 0, 0, 0, 0, 0, 0, 0x24, 0, 0, 0, 4, 0, 0, 0, 0x30,
 ];
 
-pub fn place(off: u16) -> Tid {
+fn place(off: u16) -> Tid {
     Tid {
         block: 1,
         off: off.max(1),
     }
 }
 
-pub fn row(off: u16) -> HeapId {
+fn row(off: u16) -> HeapId {
     HeapId {
         block: 1,
         off: off.max(1),
@@ -80,7 +80,7 @@ fn slots(alloc: Global, count: usize) -> Result<Listed<Option<Tid>>, Fail> {
 }
 
 /// The event of a new node of level 0, with its list at the next offset.
-pub fn put(alloc: Global, off: u16, version: u8, bits: Bits, count: usize) -> Result<Event, Fail> {
+fn put(alloc: Global, off: u16, version: u8, bits: Bits, count: usize) -> Result<Event, Fail> {
     Ok(Event::Put {
         at: place(off),
         list_at: place(off.min(9) + 1),
@@ -93,7 +93,7 @@ pub fn put(alloc: Global, off: u16, version: u8, bits: Bits, count: usize) -> Re
 }
 
 /// Whether the event fits the page of a block; then its number is given to the page, and else the page stays.
-pub fn fits(event: &Event, params: Params, wrap: u8, block: u32, page: &mut Page) -> bool {
+fn fits(event: &Event, params: Params, wrap: u8, block: u32, page: &mut Page) -> bool {
     if !params.check() {
         return false;
     }
@@ -522,4 +522,10 @@ fn a_chain_that_goes_on_at_its_own_page(rt: HostRuntime) -> Result<(), Fail> {
     assert!(rt; page.item(1) == Some(&ENTRY) && page.next() == Some(3) && page.count() == 1);
     assert!(rt; !fits(&grow, LISTS, 255, 3, &mut page));
     Ok(())
+}
+
+#[test]
+fn laws_are_called(_rt: HostRuntime) {
+    law_elsewhere();
+    law_others();
 }

@@ -1,7 +1,7 @@
 -- An event is read as it is spelled.
 use Rattle.std.proofs.Common.{◌≡◌, ℕ, zero, suc, ◌+◌, ◌≤◌, ◌++◌, refl, ap, ◌∙◌, arith, lit≤}
-use Rattle.vec_event.specs.declared.event.Event.{Event}
-use Rattle.vec_event.specs.declared.event.Event.TheVariants.{Put, Join, Link, Relist, Drop, Mark, Entry, Hint, IvfAdd, IvfGrow, IvfDrop, IvfHint, Gate, Ungate, Phase, VacuumEnd, Cancel, Settled, DiskFaulted}
+use Rattle.vec_history.specs.declared.event.Event.{Event}
+use Rattle.vec_history.specs.declared.event.Event.TheVariants.{Put, Join, Link, Relist, Drop, Mark, Entry, Hint, IvfAdd, IvfGrow, IvfDrop, IvfHint, Gate, Ungate, Phase, VacuumEnd, Cancel, Settled, DiskFaulted}
 use Rattle.vec_event.specs.Spelling.{spelling, IsTyped, IsWritable}
 use Rattle.vec_event.specs.Reading.{fields_of, event}
 use Rattle.byte_fields.proofs.FieldLaws.{IsField, depending_law}

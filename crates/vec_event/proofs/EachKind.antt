@@ -3,8 +3,8 @@ use Rattle.std.proofs.Common.{◌≡◌, ℕ, ◌+◌, ◌<◌, ◌≤◌, ◌^�
 use Rattle.std.specs.Prelude.{slice_index}
 use Rattle.vec_names.specs.declared.tid.Tid.{Tid}
 use Rattle.vec_names.specs.declared.heap_id.HeapId.{HeapId}
-use Rattle.vec_event.specs.declared.event.Event.{Event}
-use Rattle.vec_event.specs.declared.event.Event.TheVariants.{Put, Join, Link, Relist, Drop, Mark, Entry, Hint, IvfAdd, IvfGrow, IvfDrop, IvfHint}
+use Rattle.vec_history.specs.declared.event.Event.{Event}
+use Rattle.vec_history.specs.declared.event.Event.TheVariants.{Put, Join, Link, Relist, Drop, Mark, Entry, Hint, IvfAdd, IvfGrow, IvfDrop, IvfHint}
 use Rattle.vec_names.specs.Pointer.{tid_option_bytes}
 use Rattle.vec_event.specs.Spelling.{spelling, IsTyped, IsWritable, IsLevelOf}
 use Rattle.vec_event.specs.Reading.{version, byte, bits, lists, number_of_two, offsets, block, put, join, link, relist, drop_ids, mark, entry, hint, ivf_add, ivf_grow, ivf_drop, ivf_hint}

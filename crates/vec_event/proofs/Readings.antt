@@ -3,7 +3,7 @@ use Rattle.std.proofs.Common.{◌≡◌, ◌≢◌, ℕ, ◌+◌, ◌-◌, ◌<�
 use Rattle.std.specs.List.{flat_map, AllByRecursion}
 use Rattle.std.proofs.lemmas.List.Concat.{flat_map-cons}
 use Rattle.std.proofs.lemmas.List.{append-nil, length-append, drop_at}
-use Rattle.vec_event.specs.declared.event.Event.{Event}
+use Rattle.vec_history.specs.declared.event.Event.{Event}
 use Rattle.vec_event.specs.Spelling.{spelling, IsTyped, IsWritable}
 use Rattle.vec_event.specs.Reading.{event}
 use Rattle.byte_fields.proofs.FieldLaws.{AreBytes, got_is, got_not_bad, got_not_short}

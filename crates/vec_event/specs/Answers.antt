@@ -1,6 +1,6 @@
 -- What a call answers, where reading gives this.
 use Rattle.std.specs.Prelude.{◌≡◌, ℕ, ◌≤◌, ◌-◌, List, length, drop, Result, Ok, Err}
-use Rattle.vec_event.specs.declared.event.Event.{Event}
+use Rattle.vec_history.specs.declared.event.Event.{Event}
 use Rattle.vec_event.specs.declared.fault.EventFault.{EventFault}
 use Rattle.vec_event.specs.declared.fault.EventFault.TheVariants as faults
 use Rattle.byte_fields.specs.Reading.{Got, Bad, Short}

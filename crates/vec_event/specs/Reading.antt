@@ -1,10 +1,11 @@
 -- Reading an event from left to right, field by field, up to the first fault.
 use Rattle.std.specs.Prelude.{ℕ, zero, suc, Bool, nat_lt, ◌==◌, if◌then◌else◌, List, [], ◌∷◌, Option}
 use Rattle.std.specs.Int.{w16, from_le_bytes}
+use Rattle.index_sizes.specs.declared.limits.TheConstants.{LAST_BLOCK, MOST_BITS, MOST_BLOCKS, MOST_SLOTS}
 use Rattle.vec_names.specs.declared.tid.Tid.{Tid}
 use Rattle.byte_fields.specs.Reading.{Got, Reader, field, with_next, and_then, ◌⨟◌, depending, viewed, times, only_if, byte_from, two_bytes_from, four_bytes_from, place, optional_place, heap_id, level_beside, packed_places}
-use Rattle.vec_event.specs.declared.event.Event.{Event}
-use Rattle.vec_event.specs.declared.event.Event.TheVariants as events
+use Rattle.vec_history.specs.declared.event.Event.{Event}
+use Rattle.vec_history.specs.declared.event.Event.TheVariants as events
 
 -- ---- fields
 
@@ -20,7 +21,7 @@ number_of_two = two_bytes_from 0 65535
 
 -- a block, or the number of a list
 abbrev pub block : Reader ℕ
-block = four_bytes_from 0 32767
+block = four_bytes_from 0 LAST_BLOCK
 
 -- two bytes of a number above low
 unfoldable pub two_bytes_above : ℕ → Reader ℕ
@@ -28,11 +29,11 @@ two_bytes_above low = field 2 (λ b. only_if (nat_lt low (from_le_bytes w16 b)) 
 
 -- four bytes of a count of places, 1 to 64,000, and the packed places
 unfoldable pub bits : Reader (List Bool)
-bits = depending (four_bytes_from 1 64000) packed_places
+bits = depending (four_bytes_from 1 MOST_BITS) packed_places
 
 -- two bytes of a count, at most 1,358, and that many optional places
 unfoldable pub lists : Reader (List (Option Tid))
-lists = depending (two_bytes_from 0 1358) (times optional_place)
+lists = depending (two_bytes_from 0 MOST_SLOTS) (times optional_place)
 
 -- so many offsets, each above the one before
 unfoldable pub rising : ℕ → ℕ → Reader (List ℕ)
@@ -69,7 +70,7 @@ unfoldable pub entry : Reader Event
 entry = viewed (λ x. events.Entry x.0 x.1) (and_then optional_place level_beside)
 
 unfoldable pub hint : Reader Event
-hint = viewed events.Hint (four_bytes_from 0 32768)
+hint = viewed events.Hint (four_bytes_from 0 MOST_BLOCKS)
 
 unfoldable pub ivf_add : Reader Event
 ivf_add = viewed (λ x. events.IvfAdd x.0 x.1.0 x.1.1) (block ⨟ heap_id ⨟ bits)

@@ -2,11 +2,12 @@
 use Rattle.std.specs.Prelude.{◌≡◌, ℕ, ◌<◌, ◌≤◌, ◌^◌, Bool, List, [], ◌∷◌, ◌++◌, length, Option, Some, None, ⊤, All}
 use Rattle.std.specs.List.{flat_map}
 use Rattle.std.specs.Int.{w16, w32, to_le_bytes}
+use Rattle.index_sizes.specs.declared.limits.TheConstants.{LAST_BLOCK, MOST_BITS, MOST_BLOCKS, MOST_SLOTS}
 use Rattle.bit_code.specs.Places.{packed}
 use Rattle.vec_names.specs.declared.tid.Tid.{Tid}
 use Rattle.vec_names.specs.Pointer.{tid_bytes, tid_option_bytes, heap_id_bytes}
-use Rattle.vec_event.specs.declared.event.Event.{Event}
-use Rattle.vec_event.specs.declared.event.Event.TheVariants.{Put, Join, Link, Relist, Drop, Mark, Entry, Hint, IvfAdd, IvfGrow, IvfDrop, IvfHint, Gate, Ungate, Phase, VacuumEnd, Cancel, Settled, DiskFaulted}
+use Rattle.vec_history.specs.declared.event.Event.{Event}
+use Rattle.vec_history.specs.declared.event.Event.TheVariants.{Put, Join, Link, Relist, Drop, Mark, Entry, Hint, IvfAdd, IvfGrow, IvfDrop, IvfHint, Gate, Ungate, Phase, VacuumEnd, Cancel, Settled, DiskFaulted}
 
 -- ---- the spelling
 
@@ -60,18 +61,18 @@ IsLevelOf (Some to) level = ⊤
 
 -- a lasting event with no value that is not allowed
 unfoldable pub IsWritable : Event → Type 0
-IsWritable (Put at list_at version level id bits lists) = (1 ≤ version) × (length lists ≤ 1358)
+IsWritable (Put at list_at version level id bits lists) = (1 ≤ version) × (length lists ≤ MOST_SLOTS)
 IsWritable (Join at version id) = 1 ≤ version
 IsWritable (Link at list_at version slot to) = 1 ≤ version
-IsWritable (Relist at list_at version lists) = (1 ≤ version) × (length lists ≤ 1358)
+IsWritable (Relist at list_at version lists) = (1 ≤ version) × (length lists ≤ MOST_SLOTS)
 IsWritable (Drop at version gone) = (1 ≤ version) × (1 ≤ gone) × (gone ≤ 1023)
 IsWritable (Mark at list_at version) = 1 ≤ version
 IsWritable (Entry to level) = IsLevelOf to level
-IsWritable (Hint block) = block ≤ 32768
-IsWritable (IvfAdd block id bits) = block ≤ 32767
-IsWritable (IvfGrow list last block id bits) = (list ≤ 32767) × (last ≤ 32767) × (block ≤ 32767)
-IsWritable (IvfDrop block gone) = (block ≤ 32767) × (1 ≤ length gone) × RisesFrom 0 gone
-IsWritable (IvfHint list block) = (list ≤ 32767) × (block ≤ 32767)
+IsWritable (Hint block) = block ≤ MOST_BLOCKS
+IsWritable (IvfAdd block id bits) = block ≤ LAST_BLOCK
+IsWritable (IvfGrow list last block id bits) = (list ≤ LAST_BLOCK) × (last ≤ LAST_BLOCK) × (block ≤ LAST_BLOCK)
+IsWritable (IvfDrop block gone) = (block ≤ LAST_BLOCK) × (1 ≤ length gone) × RisesFrom 0 gone
+IsWritable (IvfHint list block) = (list ≤ LAST_BLOCK) × (block ≤ LAST_BLOCK)
 IsWritable (Gate gate hold) = ⊥
 IsWritable (Ungate gate) = ⊥
 IsWritable (Phase stage) = ⊥
@@ -82,7 +83,7 @@ IsWritable (DiskFaulted count) = ⊥
 
 -- a bit value has 1 to 64,000 places
 abbrev pub AreBits : List Bool → Type 0
-AreBits bits = (1 ≤ length bits) × (length bits ≤ 64000)
+AreBits bits = (1 ≤ length bits) × (length bits ≤ MOST_BITS)
 
 -- what the types of the fields keep of an event: each number fits its bytes, and bit values have their length
 unfoldable pub IsTyped : Event → Type 0

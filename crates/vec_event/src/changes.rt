@@ -4,8 +4,9 @@ ghost use Rattle.std.specs.Prelude.{◌≡◌, length};
 ghost use Rattle.byte_fields.specs.Answers.{Gives, GivesOr};
 ghost use Rattle.vec_event.specs.Reading.{put, join, link, relist, drop_ids, mark, entry, hint, block, ivf_add, ivf_grow, ivf_drop, ivf_hint};
 
+use index_sizes::{LAST_BLOCK, MOST_BLOCKS};
 use crate::counted::{bits, lists, offsets};
-use crate::event::Event;
+use vec_history::Event;
 use byte_fields::{
     Halt, Stop, byte_from, four_bytes_from, heap_id, level_beside, optional_place, place,
     two_bytes_from,
@@ -119,7 +120,7 @@ pub fn entry(bytes: &[u8]) -> Result<(Event, &[u8]), Halt>
 pub fn hint(bytes: &[u8]) -> Result<(Event, &[u8]), Halt>
     ensures { GivesOr (λ x. (x.0, x.1.now)) result (hint bytes.now) }
 {
-    let (block, rest) = four_bytes_from(0, 32_768, bytes)?;
+    let (block, rest) = four_bytes_from(0, MOST_BLOCKS, bytes)?;
     Ok((Event::Hint { block }, rest))
 }
 
@@ -174,5 +175,5 @@ pub fn ivf_hint(bytes: &[u8]) -> Result<(Event, &[u8]), Halt>
 fn block(bytes: &[u8]) -> Result<(u32, &[u8]), Stop>
     ensures { Gives (λ x. (x.0, x.1.now)) result (block bytes.now) }
 {
-    four_bytes_from(0, 32_767, bytes)
+    four_bytes_from(0, LAST_BLOCK, bytes)
 }

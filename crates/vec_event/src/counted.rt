@@ -5,6 +5,7 @@ ghost use Rattle.byte_fields.specs.Reading.{packed_places};
 ghost use Rattle.byte_fields.specs.Answers.{Gives, GivesOr};
 ghost use Rattle.vec_event.specs.Reading.{bits, lists, two_bytes_above, rising, offsets};
 
+use index_sizes::{MOST_BITS, MOST_SLOTS};
 use bit_code::Bits;
 use byte_fields::{Halt, Stop, four_bytes_from, packed_places, slots, two_bytes_from};
 use std::alloc::Global;
@@ -15,14 +16,14 @@ use vec_names::{Listed, Tid};
 pub fn bits(alloc: Global, bytes: &[u8]) -> Result<(Bits, &[u8]), Halt>
     ensures { GivesOr (λ x. (x.0, x.1.now)) result (bits bytes.now) }
 {
-    let (count, rest) = four_bytes_from(1, 64_000, bytes)?;
+    let (count, rest) = four_bytes_from(1, MOST_BITS, bytes)?;
     packed(alloc, count, rest)
 }
 
 /// The packed places of a value of `count` places.
 fn packed(alloc: Global, count: u32, bytes: &[u8]) -> Result<(Bits, &[u8]), Halt>
     requires some { 1 ≤ count }
-    requires few { count ≤ 64000 }
+    requires few { count ≤ MOST_BITS }
     ensures { GivesOr (λ x. (x.0, x.1.now)) result (packed_places count bytes.now) }
 {
     let (front, rest) = packed_places(count, bytes)?;
@@ -37,7 +38,7 @@ fn packed(alloc: Global, count: u32, bytes: &[u8]) -> Result<(Bits, &[u8]), Halt
 pub fn lists(alloc: Global, bytes: &[u8]) -> Result<(Listed<Option<Tid>>, &[u8]), Halt>
     ensures { GivesOr (λ x. (x.0, x.1.now)) result (lists bytes.now) }
 {
-    let (count, rest) = two_bytes_from(0, 1_358, bytes)?;
+    let (count, rest) = two_bytes_from(0, MOST_SLOTS as u16, bytes)?;
     slots(alloc, false, count, rest)
 }
 

@@ -2,7 +2,7 @@
 
 ghost use Rattle.std.specs.Prelude.{◌≡◌, ◌++◌, ℕ, List, All};
 ghost use Rattle.std.specs.List.{flat_map};
-ghost use Rattle.vec_event.specs.declared.event.Event.{Event};
+ghost use Rattle.vec_history.specs.declared.event.Event.{Event};
 ghost use Rattle.vec_event.specs.Spelling.{spelling, IsTyped, IsWritable};
 
 /// A law, and no work. No spelling begins another one, and equal spellings are those of one event; so

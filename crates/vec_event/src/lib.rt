@@ -4,24 +4,24 @@
 
 mod changes;
 mod counted;
-mod event;
+
 mod fault;
-mod gate;
+
 mod law;
 mod pieces;
 mod reading;
 mod sizes;
-mod stage;
+
 mod writing;
 
-pub use event::{Act, Event};
 pub use fault::EventFault;
-pub use gate::{Gate, Hold};
+
 pub use law::one_reading;
 pub use reading::read_event;
 pub use sizes::event_size;
-pub use stage::Stage;
+
 pub use writing::write_event;
+pub use vec_history::{Act, Event, Gate, Hold, Stage};
 
 #[cfg(test)]
 mod tests;

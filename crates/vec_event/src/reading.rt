@@ -5,12 +5,12 @@ ghost use Rattle.vec_event.specs.Reading.{fields_of, event};
 ghost use Rattle.byte_fields.specs.Answers.{GivesOr};
 ghost use Rattle.vec_event.specs.Answers.{IsReading};
 ghost use Rattle.vec_event.specs.Spelling.{spelling, IsTyped, IsWritable};
-ghost use Rattle.vec_event.specs.declared.event.Event.{Event};
+ghost use Rattle.vec_history.specs.declared.event.Event.{Event};
 
 use crate::changes::{
     drop_ids, entry, hint, ivf_add, ivf_drop, ivf_grow, ivf_hint, join, link, mark, put, relist,
 };
-use crate::event::Event;
+use vec_history::Event;
 use crate::fault::EventFault;
 use byte_fields::{Cause, Halt, byte_from};
 use std::alloc::Global;

@@ -3,7 +3,7 @@
 ghost use Rattle.std.specs.Prelude.{◌≡◌, ◌≤◌, length};
 ghost use Rattle.vec_event.specs.Spelling.{spelling, bits_bytes, lists_bytes, offsets_bytes};
 
-use crate::event::Event;
+use vec_history::Event;
 use bit_code::Bits;
 use vec_names::Tid;
 

@@ -3,7 +3,7 @@
 ghost use Rattle.std.specs.Prelude.{◌≡◌, ◌≤◌, ◌<◌, ◌^◌, ◌+◌, ◌++◌, length, OnOk, OnErr, IfErr, IsOk, vec_len, vec_capacity, Some, Option};
 ghost use Rattle.vec_event.specs.Spelling.{spelling, bits_bytes, lists_bytes, offsets_bytes, RisesFrom, IsWritable};
 
-use crate::event::Event;
+use vec_history::Event;
 use crate::fault::EventFault;
 use crate::pieces::{put_bits, put_lists, put_offsets};
 use crate::sizes::event_size;

@@ -3,12 +3,12 @@ use Rattle.std.proofs.Common.{◌≡◌, ◌≢◌, ◌⊎◌, inl, inr, ℕ, ze
 use Rattle.std.proofs.lemmas.Option.{same_Some, none-some, slice_get_within}
 use Rattle.std.proofs.lemmas.List.{length-append, length-take, take-append-le}
 use Rattle.vec_names.specs.declared.tid.Tid.{Tid}
-use Rattle.vec_event.specs.declared.event.Event.{Event}
-use Rattle.vec_event.specs.declared.event.Event.TheVariants as event
-use Rattle.vec_event.specs.declared.event.Act.{Act}
-use Rattle.vec_event.specs.declared.gate.Gate.{Gate}
-use Rattle.vec_event.specs.declared.gate.Hold.{Hold}
-use Rattle.vec_event.specs.declared.stage.Stage.{Stage}
+use Rattle.vec_history.specs.declared.event.Event.{Event}
+use Rattle.vec_history.specs.declared.event.Event.TheVariants as event
+use Rattle.vec_history.specs.declared.event.Act.{Act}
+use Rattle.vec_history.specs.declared.gate.Gate.{Gate}
+use Rattle.vec_history.specs.declared.gate.Hold.{Hold}
+use Rattle.vec_history.specs.declared.stage.Stage.{Stage}
 use Rattle.vec_history.specs.Acts.{act_of, IsActAt, NoneAfter}
 use Rattle.vec_history.specs.Gates.{IsOfGate, HoldsSince, HoldsAs, Holds}
 use Rattle.vec_history.specs.Phases.{IsOfVacuum, PhaseSince, IsInPhase, IsAPhaseStanding, IsBarrier, IsLastBarrier, IsDrop, IsRemoved}

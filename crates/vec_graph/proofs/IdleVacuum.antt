@@ -2,13 +2,13 @@
 use Rattle.std.proofs.Common.{◌≡◌, ℕ, zero, suc, ◌<◌, List, [], ◌∷◌, drop, slice_get, Some, None, refl, sym, ap, subst, ◌∙◌, arith}
 use Rattle.std.specs.FinMap as fin
 use Rattle.std.proofs.lemmas.Option.{same_Some, none-some, slice_get_within}
-use Rattle.vec_event.specs.declared.event.Event.{Event}
-use Rattle.vec_event.specs.declared.event.Event.TheVariants as event
-use Rattle.vec_event.specs.declared.event.Act.{Act}
-use Rattle.vec_event.specs.declared.gate.Gate.{Gate}
-use Rattle.vec_event.specs.declared.gate.Gate.TheVariants.{Update, Scan, Vacuum}
-use Rattle.vec_event.specs.declared.gate.Hold.TheVariants.{Alone}
-use Rattle.vec_event.specs.declared.stage.Stage.TheVariants.{Remove, Repair, Mark}
+use Rattle.vec_history.specs.declared.event.Event.{Event}
+use Rattle.vec_history.specs.declared.event.Event.TheVariants as event
+use Rattle.vec_history.specs.declared.event.Act.{Act}
+use Rattle.vec_history.specs.declared.gate.Gate.{Gate}
+use Rattle.vec_history.specs.declared.gate.Gate.TheVariants.{Update, Scan, Vacuum}
+use Rattle.vec_history.specs.declared.gate.Hold.TheVariants.{Alone}
+use Rattle.vec_history.specs.declared.stage.Stage.TheVariants.{Remove, Repair, Mark}
 use Rattle.vec_graph.specs.declared.graph.Graph.{Graph}
 use Rattle.vec_history.specs.Acts.{act_of, NoneAfter}
 use Rattle.vec_history.specs.Gates.{IsOfGate, HoldsSince}

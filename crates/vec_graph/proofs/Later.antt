@@ -3,23 +3,25 @@ use Rattle.std.proofs.Common.{◌≡◌, ◌≢◌, ◌⊎◌, inl, inr, ℕ, ze
 use native.Mathlib.Nat.{two-pow-succ}
 use Rattle.std.proofs.lemmas.Option.{same_Some, none-some}
 use Rattle.std.proofs.lemmas.List.{length-append}
+use Rattle.list_values.specs.Masks.{kept}
 use Rattle.vec_names.specs.declared.tid.Tid.{Tid}
-use Rattle.vec_event.specs.declared.event.Event.{Event}
-use Rattle.vec_event.specs.declared.event.Event.TheVariants.{Put, Join, Link, Relist, Drop, Mark, Entry, Hint, IvfAdd, IvfGrow, IvfDrop, IvfHint, Gate, Ungate, Phase, VacuumEnd, Cancel, Settled, DiskFaulted}
-use Rattle.vec_event.specs.declared.event.Act.{Act}
-use Rattle.vec_event.specs.declared.gate.Gate.TheVariants as gate
-use Rattle.vec_event.specs.declared.gate.Hold.TheVariants.{Alone}
-use Rattle.vec_event.specs.declared.stage.Stage.{Stage}
-use Rattle.vec_event.specs.declared.stage.Stage.TheVariants as stages
+use Rattle.vec_history.specs.declared.event.Event.{Event}
+use Rattle.vec_history.specs.declared.event.Event.TheVariants.{Put, Join, Link, Relist, Drop, Mark, Entry, Hint, IvfAdd, IvfGrow, IvfDrop, IvfHint, Gate, Ungate, Phase, VacuumEnd, Cancel, Settled, DiskFaulted}
+use Rattle.vec_history.specs.declared.event.Act.{Act}
+use Rattle.vec_history.specs.declared.gate.Gate.TheVariants as gate
+use Rattle.vec_history.specs.declared.gate.Hold.TheVariants.{Alone}
+use Rattle.vec_history.specs.declared.stage.Stage.{Stage}
+use Rattle.vec_history.specs.declared.stage.Stage.TheVariants as stages
 use Rattle.vec_history.specs.Gates.{HoldsAs, Holds, AreGatesAllowed}
 use Rattle.vec_history.specs.Phases.{IsOfVacuum, PhaseSince, IsInPhase, IsAPhaseStanding, IsDrop, IsUngateAllowed, IsPhaseRemoveAllowed, IsPhaseRepairAllowed}
 use Rattle.vec_history.proofs.OneAtATime.{one_phase}
 use Rattle.vec_history.proofs.Alone.{one_alone}
+use Rattle.vec_graph.specs.declared.place.Place.{Place}
 use Rattle.vec_graph.specs.declared.node.Node.{Node}
 use Rattle.vec_graph.specs.declared.graph.Graph.{Graph}
 use Rattle.vec_graph.specs.Graph.{node_at, IsLive, IsLiveAt, IsDoomed, IsDoomedAt, IsMember}
-use Rattle.vec_graph.specs.Places.{Spot, IsOnBlocks}
-use Rattle.vec_graph.specs.Effect.{effect, after, changed, joined, linked, relisted, dropped, marked, kept}
+use Rattle.vec_graph.specs.Places.{IsOnBlocks}
+use Rattle.vec_graph.specs.Effect.{effect, after, changed, joined, linked, relisted, dropped, marked}
 use Rattle.vec_graph.specs.Rules.{IsEventAllowed, IsPhaseAllowed, IsVacuumEndAllowed, IsCancelAllowed, IsDropAllowed, IsMarkAllowed, IsEntryAllowed, IsEntryAtAllowed, IsNoEntryAllowed, IsHintAllowed, IsThere}
 use Rattle.vec_history.specs.Legal.{IsLegalAfter}
 use Rattle.vec_graph.specs.Legal.{IsAllowed, IsLegal}
@@ -110,7 +112,7 @@ module _ (base : Graph) (acts : List Act) (legal : IsLegal base acts) (on : IsOn
       → Has (effect 255 e g).nodes (SoPlaced list_at level) q
   unfolding g SoPlaced
   placed_on (Put at list_place version high id bits lists) ok list_at level q has =
-      let spot : Spot = record { at = at; list_at = list_place; version = version } in
+      let spot : Place = record { at = at; list_at = list_place; version = version } in
       has_inserted (SoPlaced list_at level) g.nodes at _
       (λ m is p. (sym (same_list g at high spot on ok.placed m is) ∙ p.0, sym (free_place g at high spot on ok.placed m is).1 ∙ p.1)) q has
   placed_on (Join at version id) ok list_at level q has = has_changed (SoPlaced list_at level) g at (joined id) (λ m is p. p) q has
@@ -145,7 +147,7 @@ module _ (base : Graph) (acts : List Act) (legal : IsLegal base acts) (on : IsOn
         → ((n : Node) (slots : _) → P n → P (record n { slots = slots })) → (q : Tid) → Has g.nodes P q → Has (effect 255 e g).nodes P q
     unfolding g
     doomed_on (Put at list_place version high id bits lists) ok P doomed keeps q has =
-        let spot : Spot = record { at = at; list_at = list_place; version = version } in
+        let spot : Place = record { at = at; list_at = list_place; version = version } in
         has_inserted P g.nodes at _ (λ m is p. absurd (true≢false (sym (free_place g at high spot on ok.placed m is).0 ∙ (doomed m p).not_deleted))) q has
     doomed_on (Join at version id) ok P doomed keeps q has =
         has_changed P g at (joined id)
@@ -203,7 +205,7 @@ module _ (base : Graph) (acts : List Act) (legal : IsLegal base acts) (on : IsOn
     droppable_on : (e : Event) → IsEventAllowed base acts a.desk e → (v gone : ℕ) (q : Tid) → Has g.nodes (Droppable v gone) q → Has (effect 255 e g).nodes (Droppable v gone) q
     unfolding g Droppable
     droppable_on (Put at list_place version high id bits lists) ok v gone q has =
-        let spot : Spot = record { at = at; list_at = list_place; version = version } in
+        let spot : Place = record { at = at; list_at = list_place; version = version } in
         has_inserted (Droppable v gone) g.nodes at _ (λ m is p. absurd (true≢false (sym (free_place g at high spot on ok.placed m is).0 ∙ p.1))) q has
     droppable_on (Join at version id) ok v gone q has =
         has_changed (Droppable v gone) g at (joined id)

@@ -11,11 +11,3 @@ pub mod NodeWords
 pub mod Asked
 pub mod Copies
 pub mod Lent
-pub mod AllowedNodes
-pub mod SamePlaces
-pub mod GrowingStates
-pub mod Positions
-pub mod KnownNodes
-pub mod MapEntries
-pub mod CleanNodes
-pub mod Repairing

@@ -12,13 +12,14 @@ use Rattle.vec_names.specs.declared.tid.Tid.{Tid}
 use Rattle.vec_names.specs.Order.{tid_cmp, tid_cmp_total, tid_cmp_exact}
 use Rattle.vec_names.specs.Places.{tid_of}
 use Rattle.vec_names.proofs.PlaceLaws.{tid_of-numbers}
-use Rattle.vec_event.specs.declared.event.Event.{Event}
-use Rattle.vec_event.specs.declared.event.Event.TheVariants.{Put, Join, Link, Relist, Drop, Mark, Entry, Hint, IvfAdd, IvfGrow, IvfDrop, IvfHint, Gate, Ungate, Phase, VacuumEnd, Cancel, Settled, DiskFaulted}
-use Rattle.vec_event.specs.declared.event.Act.{Act}
+use Rattle.vec_history.specs.declared.event.Event.{Event}
+use Rattle.vec_history.specs.declared.event.Event.TheVariants.{Put, Join, Link, Relist, Drop, Mark, Entry, Hint, IvfAdd, IvfGrow, IvfDrop, IvfHint, Gate, Ungate, Phase, VacuumEnd, Cancel, Settled, DiskFaulted}
+use Rattle.vec_history.specs.declared.event.Act.{Act}
+use Rattle.vec_graph.specs.declared.place.Place.{Place}
 use Rattle.vec_graph.specs.declared.node.Node.{Node}
 use Rattle.vec_graph.specs.declared.graph.Graph.{Graph}
 use Rattle.vec_graph.specs.Graph.{node_at}
-use Rattle.vec_graph.specs.Places.{Spot, one_if, last_off, greatest_off, next_off, fresh_spot, fresh_at, is_reusable, reused, or_else, together_on, apart_on, fresh_on, fits_one_page, new_place, IsOnBlocks, IsFree}
+use Rattle.vec_graph.specs.Places.{one_if, last_off, greatest_off, next_off, fresh_place, fresh_at, is_reusable, reused, or_else, together_on, apart_on, fresh_on, fits_one_page, new_place, IsOnBlocks, IsFree}
 use Rattle.vec_graph.specs.Effect.{effect, after, changed, changed_from, joined, linked, relisted, dropped, marked}
 use Rattle.vec_graph.specs.Rules.{IsPlaced}
 
@@ -100,29 +101,29 @@ within q n (e ∷ es) is =
 
 -- ---- fresh places
 
-at_first : (o p : Option Tid) (s : Spot) → fresh_spot o p ≡ Some s → o ≡ Some s.at
-at_first (Some at) (Some list_at) s e = ap (λ (t : Spot). Some t.at) (same_Some _ s e)
+at_first : (o p : Option Tid) (s : Place) → fresh_place o p ≡ Some s → o ≡ Some s.at
+at_first (Some at) (Some list_at) s e = ap (λ (t : Place). Some t.at) (same_Some _ s e)
 at_first (Some at) None s e = absurd (none-some s e)
 at_first None p s e = absurd (none-some s e)
 
-fresh_numbers : (block off list_block list_off : ℕ) (s : Spot) → fresh_at block off list_block list_off ≡ Some s → (s.at.block ≡ block) × (s.at.off ≡ off)
+fresh_numbers : (block off list_block list_off : ℕ) (s : Place) → fresh_at block off list_block list_off ≡ Some s → (s.at.block ≡ block) × (s.at.off ≡ off)
 fresh_numbers block off list_block list_off s e = tid_of-numbers block off s.at (at_first (tid_of block off) (tid_of list_block list_off) s e)
 
-fresh_on_numbers : (g : Graph) (b level : ℕ) (s : Spot) → fresh_on g b level ≡ Some s → (s.at.block ≡ b) × (s.at.off ≡ next_off g b)
+fresh_on_numbers : (g : Graph) (b level : ℕ) (s : Place) → fresh_on g b level ≡ Some s → (s.at.block ≡ b) × (s.at.off ≡ next_off g b)
 fresh_on_numbers g b level s e =
     elim (fits_one_page g level) as (λ t. cond t (together_on g b level) (apart_on g b level) ≡ Some s → (s.at.block ≡ b) × (s.at.off ≡ next_off g b)) [
       | true ↦ λ is. fresh_numbers b (next_off g b) b (next_off g b + 1) s (then_some _ _ s is)
       | false ↦ λ is. fresh_numbers b (next_off g b) (b + 1) (next_off g (b + 1)) s (then_some _ _ s is)
     ] e
 
-none_fresh : (g : Graph) (b level : ℕ) (s : Spot) → fresh_on g b level ≡ Some s → (n : Node) → node_at g s.at ≡ Some n → ⊥
+none_fresh : (g : Graph) (b level : ℕ) (s : Place) → fresh_on g b level ≡ Some s → (n : Node) → node_at g s.at ≡ Some n → ⊥
 none_fresh g b level s e n stands =
     let numbers = fresh_on_numbers g b level s e in
     let low = within s.at n (fin.entries g.nodes) (sym (fin.get-entries g.nodes s.at) ∙ stands) in
     let low_there = subst (λ (k : ℕ). s.at.off ≤ greatest_off k (fin.entries g.nodes)) numbers.0 low in
     absurd (omega (arith, low_there, numbers.1))
 
-fresh_free : (g : Graph) (b level : ℕ) (s : Spot) → fresh_on g b level ≡ Some s → IsFree g s.at level
+fresh_free : (g : Graph) (b level : ℕ) (s : Place) → fresh_on g b level ≡ Some s → IsFree g s.at level
 fresh_free g b level s e = λ n stands. absurd (none_fresh g b level s e n stands)
 
 -- ---- places used anew
@@ -134,13 +135,13 @@ reused_free g b level e is = λ n stands.
     let test = right _ _ (passes_there tid_cmp tid_cmp_total (fin.entries g.nodes) (is_reusable b level) e is) in
     (ap (λ (m : Node). m.deleted) (sym same) ∙ left _ _ test, ap (λ (m : Node). m.level) (sym same) ∙ eqb-true _ _ (right _ _ test))
 
-on_block_free : (g : Graph) (b level : ℕ) (s : Spot) (o : Option (Tid × Node)) → find (is_reusable b level) (fin.entries g.nodes) ≡ o
+on_block_free : (g : Graph) (b level : ℕ) (s : Place) (o : Option (Tid × Node)) → find (is_reusable b level) (fin.entries g.nodes) ≡ o
     → or_else (reused o) (fresh_on g b level) ≡ Some s → IsFree g s.at level
 on_block_free g b level s None found is = fresh_free g b level s is
 on_block_free g b level s (Some e) found is =
-    subst (λ (t : Tid). IsFree g t level) (ap (λ (t : Spot). t.at) (same_Some _ s is)) (reused_free g b level e found)
+    subst (λ (t : Tid). IsFree g t level) (ap (λ (t : Place). t.at) (same_Some _ s is)) (reused_free g b level e found)
 
-none_new : (g : Graph) (level : ℕ) (s : Spot) → IsOnBlocks g → new_place g level ≡ Some s → (n : Node) → node_at g s.at ≡ Some n → ⊥
+none_new : (g : Graph) (level : ℕ) (s : Place) → IsOnBlocks g → new_place g level ≡ Some s → (n : Node) → node_at g s.at ≡ Some n → ⊥
 none_new g level s on e n stands =
     let here : s.at.block ≡ g.blocks =
     elim (fits_one_page g level) as (λ t. cond t (fresh_at g.blocks 1 g.blocks 2) (fresh_at g.blocks 1 (g.blocks + 1) 1) ≡ Some s → s.at.block ≡ g.blocks) [
@@ -150,10 +151,10 @@ none_new g level s on e n stands =
     let low = (on s.at n stands).0 in
     absurd (omega (arith, here, low))
 
-new_free : (g : Graph) (level : ℕ) (s : Spot) → IsOnBlocks g → new_place g level ≡ Some s → IsFree g s.at level
+new_free : (g : Graph) (level : ℕ) (s : Place) → IsOnBlocks g → new_place g level ≡ Some s → IsFree g s.at level
 new_free g level s on e = λ n stands. absurd (none_new g level s on e n stands)
 
-pub free_place : (g : Graph) (at : Tid) (level : ℕ) (s : Spot) → IsOnBlocks g → IsPlaced g at level s → IsFree g s.at level
+pub free_place : (g : Graph) (at : Tid) (level : ℕ) (s : Place) → IsOnBlocks g → IsPlaced g at level s → IsFree g s.at level
 free_place g at level s on (inl is) = on_block_free g at.block level s _ refl (then_some _ _ s is)
 free_place g at level s on (inr is) = new_free g level s on is.0
 
@@ -165,14 +166,14 @@ reused_list g b level e is n stands =
     let there = fin.get-entries g.nodes e.0 ∙ stands_there tid_cmp tid_cmp_total (fin.entries g.nodes) (is_reusable b level) e (fin.entries_sorted g.nodes) is in
     ap (λ (m : Node). m.list_at) (same_Some _ _ (sym stands ∙ there))
 
-on_block_list : (g : Graph) (b level : ℕ) (s : Spot) (o : Option (Tid × Node)) → find (is_reusable b level) (fin.entries g.nodes) ≡ o
+on_block_list : (g : Graph) (b level : ℕ) (s : Place) (o : Option (Tid × Node)) → find (is_reusable b level) (fin.entries g.nodes) ≡ o
     → or_else (reused o) (fresh_on g b level) ≡ Some s → (n : Node) → node_at g s.at ≡ Some n → n.list_at ≡ s.list_at
 on_block_list g b level s None found is n stands = absurd (none_fresh g b level s is n stands)
 on_block_list g b level s (Some e) found is n stands =
     let spot = same_Some _ s is in
-    reused_list g b level e found n (subst (λ (t : Tid). node_at g t ≡ Some n) (sym (ap (λ (t : Spot). t.at) spot)) stands) ∙ ap (λ (t : Spot). t.list_at) spot
+    reused_list g b level e found n (subst (λ (t : Tid). node_at g t ≡ Some n) (sym (ap (λ (t : Place). t.at) spot)) stands) ∙ ap (λ (t : Place). t.list_at) spot
 
-pub same_list : (g : Graph) (at : Tid) (level : ℕ) (s : Spot) → IsOnBlocks g → IsPlaced g at level s → (n : Node) → node_at g s.at ≡ Some n → n.list_at ≡ s.list_at
+pub same_list : (g : Graph) (at : Tid) (level : ℕ) (s : Place) → IsOnBlocks g → IsPlaced g at level s → (n : Node) → node_at g s.at ≡ Some n → n.list_at ≡ s.list_at
 same_list g at level s on (inl is) n stands = on_block_list g at.block level s _ refl (then_some _ _ s is) n stands
 same_list g at level s on (inr is) n stands = absurd (none_new g level s on is.0 n stands)
 

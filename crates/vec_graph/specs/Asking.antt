@@ -1,20 +1,21 @@
 -- What the rules ask of a desk's next event, other than what a step answers by a word: whether another desk's hold stands in the way, whether a node
 -- is as it was read and how many ids it has, whether there is room. What is asked holds on while other desks act.
 use Rattle.std.specs.Prelude.{◌≡◌, ◌≢◌, ℕ, ◌<◌, ◌≤◌, ⊤, List, Bool, length, Option, Some, None}
+use Rattle.index_sizes.specs.Sizes.{slots_of_level}
 use Rattle.vec_names.specs.declared.tid.Tid.{Tid}
 use Rattle.vec_names.specs.Levels.{most_level}
-use Rattle.vec_event.specs.declared.event.Event.{Event}
-use Rattle.vec_event.specs.declared.event.Event.TheVariants as event
-use Rattle.vec_event.specs.declared.event.Act.{Act}
-use Rattle.vec_event.specs.declared.gate.Gate.{Gate}
-use Rattle.vec_event.specs.declared.gate.Gate.TheVariants.{Update}
-use Rattle.vec_event.specs.declared.gate.Hold.{Hold}
-use Rattle.vec_event.specs.declared.gate.Hold.TheVariants.{Shared}
+use Rattle.vec_history.specs.declared.event.Event.{Event}
+use Rattle.vec_history.specs.declared.event.Event.TheVariants as event
+use Rattle.vec_history.specs.declared.event.Act.{Act}
+use Rattle.vec_history.specs.declared.gate.Gate.{Gate}
+use Rattle.vec_history.specs.declared.gate.Gate.TheVariants.{Update}
+use Rattle.vec_history.specs.declared.gate.Hold.{Hold}
+use Rattle.vec_history.specs.declared.gate.Hold.TheVariants.{Shared}
 use Rattle.vec_history.specs.Gates.{Holds, HoldsAs}
 use Rattle.vec_history.specs.Phases.{IsUngateAllowed}
 use Rattle.vec_graph.specs.declared.node.Node.{Node}
 use Rattle.vec_graph.specs.declared.graph.Graph.{Graph}
-use Rattle.vec_graph.specs.Graph.{node_at, slots_of_level, slot_layer, IsMember}
+use Rattle.vec_graph.specs.Graph.{node_at, slot_layer, IsMember}
 use Rattle.vec_graph.specs.Effect.{after}
 use Rattle.vec_graph.specs.Knowing.{Knows}
 use Rattle.vec_graph.specs.Rules.{IsThere, IsPlaced, IsPhaseAllowed, IsVacuumEndAllowed, IsCancelAllowed, IsDropAllowed, IsMarkAllowed, IsEntryAllowed, IsHintAllowed}

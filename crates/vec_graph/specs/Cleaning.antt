@@ -1,9 +1,9 @@
 -- What the repair of a vacuum has to have cleaned before its last pass.
 use Rattle.std.specs.Prelude.{◌≡◌, ℕ, ◌≤◌, List, take, Some}
 use Rattle.vec_names.specs.declared.tid.Tid.{Tid}
-use Rattle.vec_event.specs.declared.event.Act.{Act}
-use Rattle.vec_event.specs.declared.gate.Gate.TheVariants.{Scan}
-use Rattle.vec_event.specs.declared.stage.Stage.TheVariants.{Repair}
+use Rattle.vec_history.specs.declared.event.Act.{Act}
+use Rattle.vec_history.specs.declared.gate.Gate.TheVariants.{Scan}
+use Rattle.vec_history.specs.declared.stage.Stage.TheVariants.{Repair}
 use Rattle.vec_history.specs.Phases.{PhaseSince, IsLastBarrier, IsRemoved}
 use Rattle.vec_graph.specs.declared.graph.Graph.{Graph}
 use Rattle.vec_graph.specs.Graph.{IsLiveAt, IsDoomedAt, HasMember}

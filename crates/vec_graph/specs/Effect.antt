@@ -1,25 +1,18 @@
 -- What each event changes.
 use Rattle.std.specs.Prelude.{ℕ, ◌+◌, ◌/◌, ◌%◌, ◌==◌, ◌||◌, if◌then◌else◌, max, ⊤, Bool, true, false, List, [], ◌∷◌, ◌++◌, take, length, replicate, slice_set, Option, Some, None}
 use Rattle.std.specs.FinMap.{insert}
+use Rattle.list_values.specs.Masks.{kept}
+use Rattle.index_sizes.specs.Sizes.{next_version}
 use Rattle.vec_names.specs.declared.tid.Tid.{Tid}
 use Rattle.vec_names.specs.declared.heap_id.HeapId.{HeapId}
-use Rattle.vec_event.specs.declared.event.Event.{Event}
-use Rattle.vec_event.specs.declared.event.Event.TheVariants.{Put, Join, Link, Relist, Drop, Mark, Entry, Hint, IvfAdd, IvfGrow, IvfDrop, IvfHint, Gate, Ungate, Phase, VacuumEnd, Cancel, Settled, DiskFaulted}
-use Rattle.vec_event.specs.declared.event.Act.{Act}
+use Rattle.vec_history.specs.declared.event.Event.{Event}
+use Rattle.vec_history.specs.declared.event.Event.TheVariants.{Put, Join, Link, Relist, Drop, Mark, Entry, Hint, IvfAdd, IvfGrow, IvfDrop, IvfHint, Gate, Ungate, Phase, VacuumEnd, Cancel, Settled, DiskFaulted}
+use Rattle.vec_history.specs.declared.event.Act.{Act}
 use Rattle.vec_graph.specs.declared.node.Node.{Node}
 use Rattle.vec_graph.specs.declared.graph.Graph.{Graph}
 use Rattle.vec_graph.specs.Graph.{node_at}
 
 -- ---- of one node
-
--- the ids that the mask does not name, whose lowest bit is for the first
-abbrev pub kept : ℕ → List HeapId → List HeapId
-kept mask [] = []
-kept mask (id ∷ ids) = if mask % 2 == 1 then kept (mask / 2) ids else id ∷ kept (mask / 2) ids
-
--- the version after this one: 1 after 255, and after the version at which an older form of the log wraps
-abbrev pub next_version : ℕ → ℕ → ℕ
-next_version wrap v = if (v == wrap) || (v == 255) then 1 else v + 1
 
 abbrev pub joined : HeapId → Node → Node
 joined id n = record n { ids = n.ids ++ id ∷ [] }

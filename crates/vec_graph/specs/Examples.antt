@@ -2,11 +2,11 @@
 use Rattle.std.specs.Prelude.{ℕ, Bool, List, [], ◌∷◌, Some, None}
 use Rattle.vec_names.specs.declared.tid.Tid.{Tid}
 use Rattle.vec_names.specs.declared.heap_id.HeapId.{HeapId}
-use Rattle.vec_event.specs.declared.event.Event.TheVariants as event
-use Rattle.vec_event.specs.declared.event.Act.{Act}
-use Rattle.vec_event.specs.declared.gate.Gate.TheVariants.{Update, Scan, Vacuum}
-use Rattle.vec_event.specs.declared.gate.Hold.TheVariants.{Alone}
-use Rattle.vec_event.specs.declared.stage.Stage.TheVariants.{Remove, Repair, Mark}
+use Rattle.vec_history.specs.declared.event.Event.TheVariants as event
+use Rattle.vec_history.specs.declared.event.Act.{Act}
+use Rattle.vec_history.specs.declared.gate.Gate.TheVariants.{Update, Scan, Vacuum}
+use Rattle.vec_history.specs.declared.gate.Hold.TheVariants.{Alone}
+use Rattle.vec_history.specs.declared.stage.Stage.TheVariants.{Remove, Repair, Mark}
 use Rattle.vec_history.specs.Acts.{act_of}
 
 -- what a desk does to put the first node, of level 0, where m is 2

@@ -1,6 +1,7 @@
 -- The index graph: its nodes, which of them are live or doomed, and the members of their layers.
 use Rattle.std.specs.Prelude.{◌≡◌, ℕ, ◌+◌, ◌*◌, ◌-◌, ◌/◌, ◌≤◌, ◌≢◌, ◌==◌, if◌then◌else◌, Bool, false, List, [], take, drop, length, map, slice_get, flat_map, Option, Some}
 use Rattle.std.specs.FinMap.{get, values}
+use Rattle.index_sizes.specs.Sizes.{slots_of_level}
 use Rattle.vec_names.specs.declared.tid.Tid.{Tid}
 use Rattle.vec_names.specs.declared.heap_id.HeapId.{HeapId}
 use Rattle.vec_graph.specs.declared.node.Node.{Node}
@@ -46,10 +47,6 @@ pub record HasLevel (g : Graph) (at : Tid) (level : ℕ) : Type 0 where
   pub of_level : node.level ≡ level
 
 -- ---- layers
-
--- how many slots a node of this level has: m in each layer above the lowest, and 2m in that
-abbrev pub slots_of_level : ℕ → ℕ → ℕ
-slots_of_level m level = (level + 2) * m
 
 -- each node has the slots of its level
 abbrev pub HasAllSlots : Graph → Type 0

@@ -1,9 +1,9 @@
 -- What a desk knows.
 use Rattle.std.specs.Prelude.{◌<◌, ◌≤◌, ℕ, List, length}
 use Rattle.vec_names.specs.declared.tid.Tid.{Tid}
-use Rattle.vec_event.specs.declared.event.Act.{Act}
-use Rattle.vec_event.specs.declared.gate.Gate.TheVariants.{Update}
-use Rattle.vec_event.specs.declared.gate.Hold.{Hold}
+use Rattle.vec_history.specs.declared.event.Act.{Act}
+use Rattle.vec_history.specs.declared.gate.Gate.TheVariants.{Update}
+use Rattle.vec_history.specs.declared.gate.Hold.{Hold}
 use Rattle.vec_history.specs.Gates.{HoldsSince}
 use Rattle.vec_graph.specs.declared.graph.Graph.{Graph}
 use Rattle.vec_graph.specs.Graph.{IsLiveAt}

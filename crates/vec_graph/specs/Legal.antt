@@ -1,6 +1,6 @@
 -- Legal histories.
 use Rattle.std.specs.Prelude.{List}
-use Rattle.vec_event.specs.declared.event.Act.{Act}
+use Rattle.vec_history.specs.declared.event.Act.{Act}
 use Rattle.vec_history.specs.Legal.{IsLegalBy}
 use Rattle.vec_graph.specs.declared.graph.Graph.{Graph}
 use Rattle.vec_graph.specs.Rules.{IsEventAllowed}

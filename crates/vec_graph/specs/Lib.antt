@@ -1,8 +1,6 @@
 pub mod Graph
 pub mod Places
-pub mod Spots
 pub mod Effect
-pub mod Course
 pub mod Knowing
 pub mod Cleaning
 pub mod Rules
@@ -10,5 +8,3 @@ pub mod Legal
 pub mod Sound
 pub mod Asking
 pub mod Examples
-pub mod Deciding
-pub mod Knowable

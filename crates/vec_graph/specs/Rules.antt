@@ -1,21 +1,24 @@
 -- Which event a desk may make after a list of acts: one word for each kind of event. A base is the graph that the acts begin at.
 use Rattle.std.specs.Prelude.{◌≡◌, ℕ, ◌+◌, ◌<◌, ◌≤◌, ◌^◌, ◌≢◌, ◌⊎◌, Bool, false, List, length, Option, Some, None}
+use Rattle.index_sizes.specs.declared.limits.TheConstants.{MOST_BLOCKS}
+use Rattle.index_sizes.specs.Sizes.{slots_of_level}
 use Rattle.vec_names.specs.declared.tid.Tid.{Tid}
 use Rattle.vec_names.specs.Levels.{most_level}
-use Rattle.vec_event.specs.declared.event.Event.{Event}
-use Rattle.vec_event.specs.declared.event.Event.TheVariants as event
-use Rattle.vec_event.specs.declared.event.Act.{Act}
-use Rattle.vec_event.specs.declared.gate.Gate.TheVariants.{Update, Vacuum}
-use Rattle.vec_event.specs.declared.gate.Hold.TheVariants.{Alone}
-use Rattle.vec_event.specs.declared.stage.Stage.{Stage}
-use Rattle.vec_event.specs.declared.stage.Stage.TheVariants.{Remove, Repair, Mark}
+use Rattle.vec_history.specs.declared.event.Event.{Event}
+use Rattle.vec_history.specs.declared.event.Event.TheVariants as event
+use Rattle.vec_history.specs.declared.event.Act.{Act}
+use Rattle.vec_history.specs.declared.gate.Gate.TheVariants.{Update, Vacuum}
+use Rattle.vec_history.specs.declared.gate.Hold.TheVariants.{Alone}
+use Rattle.vec_history.specs.declared.stage.Stage.{Stage}
+use Rattle.vec_history.specs.declared.stage.Stage.TheVariants.{Remove, Repair, Mark}
 use Rattle.vec_history.specs.Gates.{Holds, HoldsAs, IsGateAllowed}
 use Rattle.vec_history.specs.Phases.{IsInPhase, IsUngateAllowed, IsPhaseRemoveAllowed, IsPhaseRepairAllowed}
 use Rattle.vec_history.specs.Settling.{IsSettledAllowed, IsFaultAllowed}
+use Rattle.vec_graph.specs.declared.place.Place.{Place}
 use Rattle.vec_graph.specs.declared.node.Node.{Node}
 use Rattle.vec_graph.specs.declared.graph.Graph.{Graph}
-use Rattle.vec_graph.specs.Graph.{node_at, IsLiveAt, IsDoomed, IsDoomedAt, slots_of_level, slot_layer, IsMember}
-use Rattle.vec_graph.specs.Places.{Spot, place_on, new_place, new_blocks}
+use Rattle.vec_graph.specs.Graph.{node_at, IsLiveAt, IsDoomed, IsDoomedAt, slot_layer, IsMember}
+use Rattle.vec_graph.specs.Places.{place_on, new_place, new_blocks}
 use Rattle.vec_graph.specs.Effect.{after}
 use Rattle.vec_graph.specs.Knowing.{Knows}
 use Rattle.vec_graph.specs.Cleaning.{IsRepaired}
@@ -48,9 +51,9 @@ KnowsMembers base acts desk level lists =
     (layer : ℕ) (to : Tid) → IsMember (after base acts).params.m level lists layer to → Knows base acts desk to layer
 
 -- The places and the version are those that the element's block gives, or those on new blocks, which stay within 32,768.
-abbrev pub IsPlaced : Graph → Tid → ℕ → Spot → Type 0
+abbrev pub IsPlaced : Graph → Tid → ℕ → Place → Type 0
 IsPlaced g at level spot =
-    (place_on g at.block level ≡ Some spot) ⊎ ((new_place g level ≡ Some spot) × (g.blocks + new_blocks g level ≤ 32768))
+    (place_on g at.block level ≡ Some spot) ⊎ ((new_place g level ≡ Some spot) × (g.blocks + new_blocks g level ≤ MOST_BLOCKS))
 
 -- A new node: at a place for its level, with a value of the index's length, and neighbours that the desk knows.
 pub record IsPutAllowed (base : Graph) (acts : List Act) (desk : ℕ) (at list_at : Tid) (version level : ℕ) (bits : List Bool) (lists : List (Option Tid)) : Type 0 where

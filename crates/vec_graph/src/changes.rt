@@ -1,14 +1,16 @@
 //! What each event changes, as a program.
 
 ghost use Rattle.std.specs.Prelude.{◌≡◌, ◌<◌, ◌≤◌, OnOk, IfOk, replicate, false, length, List, Option, None};
+ghost use Rattle.list_values.specs.Masks.{kept};
 ghost use Rattle.vec_names.specs.declared.tid.Tid.{Tid as Tids};
-ghost use Rattle.vec_graph.specs.Effect.{effect, changed, with_node, with_new, joined, linked, relisted, dropped, marked, kept, next_version, blocks_with};
+ghost use Rattle.vec_graph.specs.Effect.{effect, changed, with_node, with_new, joined, linked, relisted, dropped, marked, blocks_with};
 
 use crate::graph::Graph;
-use crate::node::{Node, copy_of};
+use crate::node::Node;
 use bit_code::Bits;
+use index_sizes::next_version;
 use std::alloc::{AllocError, Global};
-use vec_event::Event;
+use vec_history::Event;
 use vec_names::{HeapId, Listed, Tid};
 
 impl Graph {
@@ -71,7 +73,7 @@ impl Graph {
     ) -> Result<(), AllocError>
         ensures { OnOk result (self.new ≡ with_new self.old at list_at version level id bits.now lists.now) }
     {
-        let bits = copy_of(bits)?;
+        let bits = bits.copied()?;
         let slots = lists.try_clone(alloc)?;
         let mut ids = Listed::new(alloc);
         ids.push(id)?;
@@ -176,7 +178,7 @@ impl Node {
     {
         let bits = zeros_like(&self.bits, alloc)?;
         let slots = no_slots(self.slots.len(), alloc)?;
-        self.version = version_after(wrap, self.version);
+        self.version = next_version(wrap, self.version);
         self.deleted = true;
         self.bits = bits;
         self.ids = Listed::new(alloc);
@@ -198,16 +200,6 @@ fn kept_ids(gone: u16, ids: &[HeapId], alloc: Global) -> Result<Listed<HeapId>, 
         mask = mask / 2;
     }
     Ok(left)
-}
-
-fn version_after(wrap: u8, version: u8) -> u8
-    ensures { result ≡ next_version wrap version }
-{
-    if version == wrap || version == 255 {
-        1
-    } else {
-        version + 1
-    }
 }
 
 // A value of the same length whose places are all 0.

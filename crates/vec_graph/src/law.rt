@@ -3,17 +3,19 @@
 ghost use Rattle.std.specs.Prelude.{◌≡◌, ◌≢◌, ◌⊎◌, ℕ, ◌++◌, ◌∷◌, [], true, false, take, slice_get, Some, None, List, Bool, Option, ◌≤◌, ◌↔◌, length, Contains};
 ghost use Rattle.vec_names.specs.declared.tid.Tid.{Tid as Tids};
 ghost use Rattle.vec_names.specs.Levels.{most_level};
-ghost use Rattle.vec_event.specs.declared.event.Act.{Act};
-ghost use Rattle.vec_event.specs.declared.event.Event.{Event as Events};
+ghost use Rattle.vec_history.specs.declared.event.Act.{Act};
+ghost use Rattle.vec_history.specs.declared.event.Event.{Event as Events};
 ghost use Rattle.vec_graph.specs.Asking.{IsAsked, IsGranted, IsOfAll};
-ghost use Rattle.vec_event.specs.declared.gate.Gate.{Gate as Gates};
-ghost use Rattle.vec_event.specs.declared.gate.Hold.{Hold as Holding};
-ghost use Rattle.vec_event.specs.declared.gate.Hold.TheVariants.{Alone};
+ghost use Rattle.vec_history.specs.declared.gate.Gate.{Gate as Gates};
+ghost use Rattle.vec_history.specs.declared.gate.Hold.{Hold as Holding};
+ghost use Rattle.vec_history.specs.declared.gate.Hold.TheVariants.{Alone};
 ghost use Rattle.vec_names.specs.declared.heap_id.HeapId.{HeapId as HeapIds};
 ghost use Rattle.vec_graph.specs.declared.graph.Graph.{Graph as Graphs};
 ghost use Rattle.vec_graph.specs.declared.node.Node.{Node};
 ghost use Rattle.vec_graph.specs.Graph.{HasAllSlots, IsLive, IsDoomed, HasLevel, IsMember, layer_slots, slot_layer, entries};
-ghost use Rattle.vec_graph.specs.Effect.{effect, after, state_after, kept, next_version, AreIdsChanged};
+ghost use Rattle.list_values.specs.Masks.{kept};
+ghost use Rattle.index_sizes.specs.Sizes.{next_version};
+ghost use Rattle.vec_graph.specs.Effect.{effect, after, state_after, AreIdsChanged};
 ghost use Rattle.vec_history.specs.Gates.{HoldsAs};
 ghost use Rattle.vec_graph.specs.Places.{new_place, element_need, list_need, fits_one_page, IsOnBlocks, IsFree};
 ghost use Rattle.vec_graph.specs.Rules.{IsPutAllowed, IsEventAllowed};
@@ -22,7 +24,7 @@ ghost use Rattle.vec_graph.specs.Examples.{first_insert, idle_vacuum};
 ghost use Rattle.std.specs.FinMap as map;
 
 use crate::graph::Graph;
-use vec_event::Act;
+use vec_history::Act;
 
 /// A law, and no work. Each act of a legal history is allowed after the acts before it, so what is cut off
 /// anywhere is legal too; and an act that is allowed makes a longer legal history.

@@ -30,7 +30,7 @@ impl Node {
     pub fn try_clone(&self, alloc: Global) -> Result<Node, AllocError>
         ensures { IfOk result (λ copy. copy ≡ self.now) }
     {
-        let bits = copy_of(&self.bits)?;
+        let bits = self.bits.copied()?;
         let ids = self.ids.try_clone(alloc)?;
         let slots = self.slots.try_clone(alloc)?;
         Ok(Node {
@@ -42,15 +42,5 @@ impl Node {
             list_at: self.list_at,
             slots,
         })
-    }
-}
-
-/// An equal value, in memory of its own.
-pub(crate) fn copy_of(bits: &Bits) -> Result<Bits, AllocError>
-    ensures { IfOk result (λ copy. copy ≡ bits.now) }
-{
-    match bits.try_clone() {
-        Ok(copy) => Ok(copy),
-        Err(_) => Err(AllocError),
     }
 }

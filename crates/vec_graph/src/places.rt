@@ -1,42 +1,26 @@
 //! Where a new node may stand.
 
 ghost use Rattle.std.specs.Prelude.{◌≡◌, ◌↔◌, ◌<◌, ◌≤◌, ◌^◌, IsTrue, find};
-ghost use Rattle.std.specs.Option.{option_map};
 ghost use Rattle.std.specs.FinMap as map;
 ghost use Rattle.vec_names.specs.Places.{tid_of};
-ghost use Rattle.vec_graph.specs.Graph.{slots_of_level};
-ghost use Rattle.vec_graph.specs.Places.{need, element_need, list_need, taken_on, room, last_off, greatest_off, next_off, fresh_at, fits_one_page, is_reusable, reused, together_on, apart_on, fresh_on, place_on, new_blocks, new_place};
-ghost use Rattle.vec_graph.specs.Rules.{IsPlaced};
-ghost use Rattle.vec_graph.specs.Spots.{spot_of};
+ghost use Rattle.vec_graph.specs.Places.{element_need, list_need, taken_on, room, last_off, greatest_off, next_off, fresh_at, fits_one_page, is_reusable, reused, together_on, apart_on, fresh_on, place_on, new_blocks, new_place};
 
 use crate::graph::Graph;
 use crate::node::Node;
+use crate::place::Place;
+use index_sizes::{
+    LAST_BLOCK, PAGE_ROOM, element_size, item_need, links_size, slots_of_level,
+};
 use vec_names::Tid;
-
-/// The bytes of a page for items, each with its item pointer.
-const PAGE_ROOM: u64 = 8160;
-
-/// The highest number of a block.
-const LAST_BLOCK: u64 = 32_767;
 
 /// The highest offset on a page.
 const LAST_OFF: u32 = 65_535;
-
-/// Where a new node stands.
-#[derive(Clone, Copy, Debug, PartialEq, Eq)]
-pub struct Place {
-    pub at: Tid,
-    /// Where its list of neighbours stands.
-    pub list_at: Tid,
-    /// The version that the node has there: 1 at a fresh place, and that of the deleted node at one that is used anew.
-    pub version: u8,
-}
 
 impl Graph {
     /// The place on a block for a node of this level, if there is one: that of the first deleted node of its level, or
     /// else a fresh one.
     pub fn place_on(&self, block: u32, level: u8) -> Option<Place>
-        ensures { option_map spot_of result ≡ place_on self.now block level }
+        ensures { result ≡ place_on self.now block level }
     {
         if block < 1 || block >= self.blocks {
             return None;
@@ -49,7 +33,7 @@ impl Graph {
 
     /// The place for a node of this level on new blocks; None where their numbers are not in range.
     pub fn new_place(&self, level: u8) -> Option<Place>
-        ensures { option_map spot_of result ≡ new_place self.now level }
+        ensures { result ≡ new_place self.now level }
     {
         let block = u64::from(self.blocks);
         if self.fits_one_page(level) {
@@ -72,20 +56,20 @@ impl Graph {
         ensures exact { result ≡ element_need self.now }
         ensures small { result < 2 ^ 32 }
     {
-        need(80 + (u64::from(self.params.bits) + 7) / 8)
+        item_need(element_size(self.params.bits))
     }
 
     fn list_need(&self, level: u8) -> u64
         ensures exact { result ≡ list_need self.now level }
         ensures small { result < 2 ^ 32 }
     {
-        need(4 + 6 * slots_of_level(self.params.m, level))
+        item_need(links_size(slots_of_level(self.params.m, level)))
     }
 
     fn fits_one_page(&self, level: u8) -> bool
         ensures { result ≡ fits_one_page self.now level }
     {
-        self.element_need() + self.list_need(level) <= PAGE_ROOM
+        self.element_need() + self.list_need(level) <= PAGE_ROOM as u64
     }
 
     fn taken_on(&self, block: u32, at: Tid, node: &Node) -> u64
@@ -107,7 +91,7 @@ impl Graph {
     fn room(&self, block: u32) -> u64
         ensures { result ≡ room self.now block }
     {
-        let mut room = PAGE_ROOM;
+        let mut room = PAGE_ROOM as u64;
         for (at, node) in self.nodes.iter() {
             room = room.saturating_sub(self.taken_on(block, *at, node));
         }
@@ -128,7 +112,7 @@ impl Graph {
     // ---- a place
 
     fn reused(&self, block: u32, level: u8) -> Option<Place>
-        ensures { option_map spot_of result ≡ reused (find (is_reusable block level) (map.entries self.now.nodes)) }
+        ensures { result ≡ reused (find (is_reusable block level) (map.entries self.now.nodes)) }
     {
         for (at, node) in self.nodes.iter() {
             if at.block == block && node.deleted && node.level == level {
@@ -143,7 +127,7 @@ impl Graph {
     }
 
     fn fresh_on(&self, block: u32, level: u8) -> Option<Place>
-        ensures { option_map spot_of result ≡ fresh_on self.now block level }
+        ensures { result ≡ fresh_on self.now block level }
     {
         if self.fits_one_page(level) {
             self.together_on(block, level)
@@ -153,7 +137,7 @@ impl Graph {
     }
 
     fn together_on(&self, block: u32, level: u8) -> Option<Place>
-        ensures { option_map spot_of result ≡ together_on self.now block level }
+        ensures { result ≡ together_on self.now block level }
     {
         if self.element_need() + self.list_need(level) > self.room(block) {
             return None;
@@ -163,7 +147,7 @@ impl Graph {
     }
 
     fn apart_on(&self, block: u32, level: u8) -> Option<Place>
-        ensures { option_map spot_of result ≡ apart_on self.now block level }
+        ensures { result ≡ apart_on self.now block level }
     {
         let blocks = self.blocks;
         if block >= blocks || block + 1 >= blocks {
@@ -182,23 +166,6 @@ impl Graph {
     }
 }
 
-// How many slots a node of this level has.
-pub(crate) fn slots_of_level(m: u16, level: u8) -> u64
-    ensures exact { result ≡ slots_of_level m level }
-    ensures small { result < 2 ^ 25 }
-{
-    (u64::from(level) + 2) * u64::from(m)
-}
-
-// What an item of so many bytes takes of a page.
-fn need(len: u64) -> u64
-    requires { len < 2 ^ 31 }
-    ensures exact { result ≡ need len }
-    ensures small { result < 2 ^ 32 }
-{
-    (len + 7) / 8 * 8 + 4
-}
-
 fn last_off(block: u32, at: Tid, node: &Node) -> u16
     ensures { result ≡ last_off block (at, node.now) }
 {
@@ -213,7 +180,7 @@ fn last_off(block: u32, at: Tid, node: &Node) -> u16
 
 // A fresh place, if these numbers are in range.
 fn fresh_at(block: u64, off: u32, list_block: u64, list_off: u32) -> Option<Place>
-    ensures { option_map spot_of result ≡ fresh_at block off list_block list_off }
+    ensures { result ≡ fresh_at block off list_block list_off }
 {
     let at = tid(block, off)?;
     let list_at = tid(list_block, list_off)?;
@@ -227,7 +194,7 @@ fn fresh_at(block: u64, off: u32, list_block: u64, list_off: u32) -> Option<Plac
 fn tid(block: u64, off: u32) -> Option<Tid>
     ensures { result ≡ tid_of block off }
 {
-    if block > LAST_BLOCK {
+    if block > u64::from(LAST_BLOCK) {
         return None;
     }
     if off > LAST_OFF {

@@ -1,12 +1,12 @@
 -- One holder alone.
 use Rattle.std.proofs.Common.{◌≡◌, ◌≢◌, inl, inr, ℕ, ◌<◌, List, take, slice_get, sym, ap, subst, ◌∙◌}
 use Rattle.std.proofs.lemmas.Option.{same_Some}
-use Rattle.vec_event.specs.declared.event.Act.{Act}
-use Rattle.vec_event.specs.declared.gate.Gate.{Gate}
-use Rattle.vec_event.specs.declared.gate.Hold.{Hold}
-use Rattle.vec_event.specs.declared.gate.Hold.TheVariants.{Shared, Alone}
+use Rattle.vec_history.specs.declared.event.Act.{Act}
+use Rattle.vec_history.specs.declared.gate.Gate.{Gate}
+use Rattle.vec_history.specs.declared.gate.Hold.{Hold}
+use Rattle.vec_history.specs.declared.gate.Hold.TheVariants.{Shared, Alone}
 use Rattle.vec_history.specs.Gates.{HoldsSince, HoldsAs, AreGatesAllowed}
-use Rattle.vec_history.proofs.Parts.{in_part, in_whole, in_order}
+use Rattle.list_values.proofs.Parts.{in_part, in_whole, in_order}
 
 held_before : (acts : List Act) (desk : ℕ) (gate : Gate) (hold : Hold) (k n : ℕ) → k < n → HoldsSince acts desk gate hold k
     → HoldsSince (take n acts) desk gate hold k

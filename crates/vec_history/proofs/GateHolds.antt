@@ -1,9 +1,9 @@
 -- What a desk's own hold says of whether another may come beside it.
 use Rattle.std.proofs.Common.{◌≡◌, ◌≢◌, ◌↔◌, ℕ, List, ◌∙◌}
-use Rattle.vec_event.specs.declared.event.Act.{Act}
-use Rattle.vec_event.specs.declared.gate.Gate.{Gate}
-use Rattle.vec_event.specs.declared.gate.Hold.{Hold}
-use Rattle.vec_event.specs.declared.gate.Hold.TheVariants.{Shared}
+use Rattle.vec_history.specs.declared.event.Act.{Act}
+use Rattle.vec_history.specs.declared.gate.Gate.{Gate}
+use Rattle.vec_history.specs.declared.gate.Hold.{Hold}
+use Rattle.vec_history.specs.declared.gate.Hold.TheVariants.{Shared}
 use Rattle.vec_history.specs.Gates.{HoldsSince}
 use Rattle.vec_history.specs.Deciding.{AgreesWith, AgreesWithOthers}
 use Rattle.vec_history.proofs.Scans.{EachOf}

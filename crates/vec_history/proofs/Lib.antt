@@ -1,4 +1,3 @@
-pub mod Parts
 pub mod OneAtATime
 pub mod Alone
 pub mod Scans

@@ -1,16 +1,16 @@
 -- One hold of a gate by a desk, and one phase.
 use Rattle.std.proofs.Common.{◌≡◌, inl, inr, ℕ, List, slice_get, refl, sym, ap, ◌∙◌}
 use Rattle.std.proofs.lemmas.Option.{same_Some}
-use Rattle.vec_event.specs.declared.event.Event.{Event}
-use Rattle.vec_event.specs.declared.event.Event.TheVariants as event
-use Rattle.vec_event.specs.declared.event.Act.{Act}
-use Rattle.vec_event.specs.declared.gate.Gate.{Gate}
-use Rattle.vec_event.specs.declared.gate.Hold.{Hold}
-use Rattle.vec_event.specs.declared.stage.Stage.{Stage}
+use Rattle.vec_history.specs.declared.event.Event.{Event}
+use Rattle.vec_history.specs.declared.event.Event.TheVariants as event
+use Rattle.vec_history.specs.declared.event.Act.{Act}
+use Rattle.vec_history.specs.declared.gate.Gate.{Gate}
+use Rattle.vec_history.specs.declared.gate.Hold.{Hold}
+use Rattle.vec_history.specs.declared.stage.Stage.{Stage}
 use Rattle.vec_history.specs.Gates.{HoldsSince}
 use Rattle.vec_history.specs.Acts.{act_of}
 use Rattle.vec_history.specs.Phases.{PhaseSince}
-use Rattle.vec_history.proofs.Parts.{in_order}
+use Rattle.list_values.proofs.Parts.{in_order}
 
 hold_of : Hold → Event → Hold
 hold_of default (event.Gate gate hold) = hold

@@ -1,7 +1,7 @@
 -- Parts of legal histories.
 use Rattle.std.proofs.Common.{◌≡◌, ℕ, zero, suc, List, [], ◌∷◌, ◌++◌, take, drop, slice_get, Some, sym, subst, append_assoc, append-nil}
 use Rattle.std.proofs.lemmas.Option.{same_Some, none-some}
-use Rattle.vec_event.specs.declared.event.Act.{Act}
+use Rattle.vec_history.specs.declared.event.Act.{Act}
 use Rattle.vec_history.specs.Legal.{IsLegalAfter}
 
 module _ (May : List Act → Act → Type 0) where

@@ -1,12 +1,12 @@
 -- One last barrier, and what it says of drops.
 use Rattle.std.proofs.Common.{◌≡◌, inl, inr, ℕ, ◌+◌, List, sym, ap, subst, ◌∙◌}
-use Rattle.vec_event.specs.declared.event.Act.{Act}
-use Rattle.vec_event.specs.declared.gate.Gate.{Gate}
-use Rattle.vec_event.specs.declared.gate.Gate.TheVariants.{Update}
+use Rattle.vec_history.specs.declared.event.Act.{Act}
+use Rattle.vec_history.specs.declared.gate.Gate.{Gate}
+use Rattle.vec_history.specs.declared.gate.Gate.TheVariants.{Update}
 use Rattle.vec_history.specs.Acts.{NoneAfter}
 use Rattle.vec_history.specs.Phases.{IsLastBarrier, IsRemoved}
 use Rattle.vec_history.specs.Deciding.{IsActDrop}
-use Rattle.vec_history.proofs.Parts.{in_order}
+use Rattle.list_values.proofs.Parts.{in_order}
 
 pub one_last_barrier : (acts : List Act) (desk : ℕ) (gate : Gate) (b1 b2 k1 k2 : ℕ) → IsLastBarrier acts desk gate b1 k1 → IsLastBarrier acts desk gate b2 k2
     → k1 ≡ k2

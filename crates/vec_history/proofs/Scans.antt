@@ -1,8 +1,8 @@
 -- Going over the elements of a list in order, or from the last to the first.
 use Rattle.std.proofs.Common.{◌≡◌, ℕ, ◌<◌, ◌≤◌, ◌+◌, inl, inr, List, length, slice_get, Some, sym, ap, subst, ◌∙◌, arith}
 use Rattle.std.proofs.lemmas.Option.{slice_get_within, same_Some}
-use Rattle.vec_event.specs.declared.event.Act.{Act}
-use Rattle.vec_history.proofs.Parts.{in_order}
+use Rattle.vec_history.specs.declared.event.Act.{Act}
+use Rattle.list_values.proofs.Parts.{in_order}
 
 -- no act of number i or later is one of these
 abbrev pub NoneFrom : List Act → ℕ → (Act → Type 0) → Type 0

@@ -1,7 +1,7 @@
 -- Acts of a history by their numbers. An act's number counts the acts before it; a position n is the state after the first n acts.
 use Rattle.std.specs.Prelude.{◌≡◌, ℕ, ◌<◌, List, slice_get, Some}
-use Rattle.vec_event.specs.declared.event.Event.{Event}
-use Rattle.vec_event.specs.declared.event.Act.{Act}
+use Rattle.vec_history.specs.declared.event.Event.{Event}
+use Rattle.vec_history.specs.declared.event.Act.{Act}
 
 abbrev pub act_of : ℕ → Event → Act
 act_of desk e = record { desk = desk; event = e }

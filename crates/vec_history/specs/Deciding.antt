@@ -1,11 +1,11 @@
 -- Words of the functions that decide the rules' words. No rule is stated by these.
 use Rattle.std.specs.Prelude.{◌≡◌, ◌≢◌, ℕ, ◌<◌, ◌≤◌, ⊤, List, slice_get, Some}
-use Rattle.vec_event.specs.declared.event.Event.{Event}
-use Rattle.vec_event.specs.declared.event.Event.TheVariants as event
-use Rattle.vec_event.specs.declared.event.Act.{Act}
-use Rattle.vec_event.specs.declared.gate.Gate.{Gate}
-use Rattle.vec_event.specs.declared.gate.Hold.{Hold}
-use Rattle.vec_event.specs.declared.gate.Hold.TheVariants.{Shared, Alone}
+use Rattle.vec_history.specs.declared.event.Event.{Event}
+use Rattle.vec_history.specs.declared.event.Event.TheVariants as event
+use Rattle.vec_history.specs.declared.event.Act.{Act}
+use Rattle.vec_history.specs.declared.gate.Gate.{Gate}
+use Rattle.vec_history.specs.declared.gate.Hold.{Hold}
+use Rattle.vec_history.specs.declared.gate.Hold.TheVariants.{Shared, Alone}
 use Rattle.vec_history.specs.Acts.{act_of, NoneAfter}
 use Rattle.vec_history.specs.Gates.{IsOfGate, HoldsAs}
 use Rattle.vec_history.specs.Phases.{IsOfVacuum, IsDrop}

@@ -1,11 +1,11 @@
 -- Which desk holds which gate, and when a gate may be taken.
 use Rattle.std.specs.Prelude.{◌≡◌, ◌≢◌, ℕ, List, take}
-use Rattle.vec_event.specs.declared.event.Event.{Event}
-use Rattle.vec_event.specs.declared.event.Event.TheVariants as event
-use Rattle.vec_event.specs.declared.event.Act.{Act}
-use Rattle.vec_event.specs.declared.gate.Gate.{Gate}
-use Rattle.vec_event.specs.declared.gate.Hold.{Hold}
-use Rattle.vec_event.specs.declared.gate.Hold.TheVariants.{Shared}
+use Rattle.vec_history.specs.declared.event.Event.{Event}
+use Rattle.vec_history.specs.declared.event.Event.TheVariants as event
+use Rattle.vec_history.specs.declared.event.Act.{Act}
+use Rattle.vec_history.specs.declared.gate.Gate.{Gate}
+use Rattle.vec_history.specs.declared.gate.Hold.{Hold}
+use Rattle.vec_history.specs.declared.gate.Hold.TheVariants.{Shared}
 use Rattle.vec_history.specs.Acts.{IsActAt, NoneAfter}
 
 -- the event takes the gate, or gives it back

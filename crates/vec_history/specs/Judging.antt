@@ -1,6 +1,6 @@
 -- Why a history is not legal.
 use Rattle.std.specs.Prelude.{◌≡◌, ℕ, ⊤, List, take, slice_get, Some}
-use Rattle.vec_event.specs.declared.event.Act.{Act}
+use Rattle.vec_history.specs.declared.event.Act.{Act}
 use Rattle.vec_history.specs.declared.fault.AuditFault.{AuditFault}
 use Rattle.vec_history.specs.declared.fault.AuditFault.TheVariants.{Memory, Illegal}
 use Rattle.vec_history.specs.Legal.{IsLegalBy}

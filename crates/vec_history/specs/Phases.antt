@@ -1,13 +1,13 @@
 -- How far a vacuum is: the phase that stands, and the barriers between its passes.
 use Rattle.std.specs.Prelude.{◌≡◌, ℕ, ◌+◌, ◌<◌, ⊤, List}
-use Rattle.vec_event.specs.declared.event.Event.{Event}
-use Rattle.vec_event.specs.declared.event.Event.TheVariants as event
-use Rattle.vec_event.specs.declared.event.Act.{Act}
-use Rattle.vec_event.specs.declared.gate.Gate.{Gate}
-use Rattle.vec_event.specs.declared.gate.Gate.TheVariants.{Update, Vacuum}
-use Rattle.vec_event.specs.declared.gate.Hold.TheVariants.{Alone}
-use Rattle.vec_event.specs.declared.stage.Stage.{Stage}
-use Rattle.vec_event.specs.declared.stage.Stage.TheVariants.{Remove}
+use Rattle.vec_history.specs.declared.event.Event.{Event}
+use Rattle.vec_history.specs.declared.event.Event.TheVariants as event
+use Rattle.vec_history.specs.declared.event.Act.{Act}
+use Rattle.vec_history.specs.declared.gate.Gate.{Gate}
+use Rattle.vec_history.specs.declared.gate.Gate.TheVariants.{Update, Vacuum}
+use Rattle.vec_history.specs.declared.gate.Hold.TheVariants.{Alone}
+use Rattle.vec_history.specs.declared.stage.Stage.{Stage}
+use Rattle.vec_history.specs.declared.stage.Stage.TheVariants.{Remove}
 use Rattle.vec_history.specs.Acts.{IsActAt, NoneAfter}
 use Rattle.vec_history.specs.Gates.{Holds, HoldsAs}
 

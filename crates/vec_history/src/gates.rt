@@ -4,7 +4,7 @@ ghost use Rattle.std.specs.Prelude.{◌↔◌, IsTrue, IfSome, IfNone};
 ghost use Rattle.vec_history.specs.Gates.{IsOfGate, HoldsSince, Holds, IsGateAllowed};
 ghost use Rattle.vec_history.specs.Deciding.{AgreesWith, AgreesWithOthers, IsDeskOfGate, IsLast, NoneOf};
 
-use vec_event::{Act, Event, Gate, Hold};
+use crate::{Act, Event, Gate, Hold};
 
 fn is_of_gate(event: &Event, gate: Gate) -> bool
     ensures { IsTrue result ↔ IsOfGate gate event.now }
@@ -34,7 +34,7 @@ fn last_of_gate(acts: &[Act], desk: u32, gate: Gate) -> Option<usize>
 }
 
 /// How the desk holds the gate after these acts, and the number of its act that took it.
-pub fn held(acts: &[Act], desk: u32, gate: Gate) -> Option<(Hold, usize)>
+pub fn hold_of(acts: &[Act], desk: u32, gate: Gate) -> Option<(Hold, usize)>
     ensures since { IfSome result (λ h. HoldsSince acts.now desk gate h.0 h.1) }
     ensures not_held { IfNone result (Holds acts.now desk gate → ⊥) }
 {
@@ -50,7 +50,7 @@ pub fn held(acts: &[Act], desk: u32, gate: Gate) -> Option<(Hold, usize)>
 pub fn may_take(acts: &[Act], desk: u32, gate: Gate, hold: Hold) -> bool
     ensures { IsTrue result ↔ IsGateAllowed acts.now desk gate hold }
 {
-    match held(acts, desk, gate) {
+    match hold_of(acts, desk, gate) {
         Some(_) => false,
         None => agrees_with_others(acts, desk, gate, hold),
     }
@@ -70,7 +70,7 @@ fn agrees_with_others(acts: &[Act], desk: u32, gate: Gate, hold: Hold) -> bool
 fn agrees_with(acts: &[Act], other: u32, gate: Gate, hold: Hold) -> bool
     ensures { IsTrue result ↔ AgreesWith acts.now other gate hold }
 {
-    match held(acts, other, gate) {
+    match hold_of(acts, other, gate) {
         Some((theirs, _)) => hold == Hold::Shared && theirs == Hold::Shared,
         None => true,
     }

@@ -1,14 +1,14 @@
 //! What the definitions of gates and phases mean: laws, and no work.
 
 ghost use Rattle.std.specs.Prelude.{◌≡◌, ◌≢◌, ℕ};
-ghost use Rattle.vec_event.specs.declared.gate.Gate.{Gate as Gates};
-ghost use Rattle.vec_event.specs.declared.gate.Hold.{Hold as Holding};
-ghost use Rattle.vec_event.specs.declared.gate.Hold.TheVariants.{Alone};
-ghost use Rattle.vec_event.specs.declared.stage.Stage.{Stage as Stages};
+ghost use Rattle.vec_history.specs.declared.gate.Gate.{Gate as Gates};
+ghost use Rattle.vec_history.specs.declared.gate.Hold.{Hold as Holding};
+ghost use Rattle.vec_history.specs.declared.gate.Hold.TheVariants.{Alone};
+ghost use Rattle.vec_history.specs.declared.stage.Stage.{Stage as Stages};
 ghost use Rattle.vec_history.specs.Gates.{HoldsAs, HoldsSince, AreGatesAllowed};
 ghost use Rattle.vec_history.specs.Phases.{PhaseSince};
 
-use vec_event::Act;
+use crate::Act;
 
 /// A law, and no work. Where each taking of a gate was allowed, a desk that holds a gate alone is the only
 /// one that holds it.

@@ -8,17 +8,23 @@
 //! and do no work.
 #![tactic(auto)]
 
+mod event;
 mod fault;
+mod gate;
 mod gates;
 mod law;
 mod phases;
 mod settling;
+mod stage;
 
+pub use event::{Act, Event};
 pub use fault::AuditFault;
-pub use gates::{held, may_take};
+pub use gate::{Gate, Hold};
+pub use gates::{hold_of, may_take};
 pub use law::{law_alone, law_one_at_a_time};
-pub use phases::{is_in_phase, last_barrier, may_begin_remove, may_give_back, phase, removed};
+pub use phases::{is_in_phase, last_barrier, may_begin_remove, may_give_back, phase, removal_end};
 pub use settling::{count_lasting, is_lasting, may_fault, may_settle};
+pub use stage::Stage;
 
 #[cfg(test)]
 mod tests;

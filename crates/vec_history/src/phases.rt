@@ -5,8 +5,8 @@ ghost use Rattle.vec_history.specs.Acts.{NoneAfter};
 ghost use Rattle.vec_history.specs.Phases.{IsOfVacuum, PhaseSince, IsInPhase, IsAPhaseStanding, IsLastBarrier, IsDrop, IsRemoved, IsUngateAllowed, IsPhaseRemoveAllowed, IsPhaseRepairAllowed};
 ghost use Rattle.vec_history.specs.Deciding.{IsActDrop, IsActOfVacuum, IsGivingBack, IsLast, IsTakingAlone, NoneOf};
 
-use crate::gates::held;
-use vec_event::{Act, Event, Gate, Hold, Stage};
+use crate::gates::hold_of;
+use crate::{Act, Event, Gate, Hold, Stage};
 
 fn is_of_vacuum(event: &Event) -> bool
     ensures { IsTrue result ↔ IsOfVacuum event.now }
@@ -60,14 +60,14 @@ pub fn is_in_phase(acts: &[Act], desk: u32, stage: Stage) -> bool
 pub fn may_give_back(acts: &[Act], desk: u32, gate: Gate) -> bool
     ensures { IsTrue result ↔ IsUngateAllowed acts.now desk gate }
 {
-    held(acts, desk, gate).is_some() && (gate != Gate::Vacuum || phase(acts).is_none())
+    hold_of(acts, desk, gate).is_some() && (gate != Gate::Vacuum || phase(acts).is_none())
 }
 
 /// Whether the desk may begin to remove: it holds Vacuum alone, and no phase stands.
 pub fn may_begin_remove(acts: &[Act], desk: u32) -> bool
     ensures { IsTrue result ↔ IsPhaseRemoveAllowed acts.now desk }
 {
-    match held(acts, desk, Gate::Vacuum) {
+    match hold_of(acts, desk, Gate::Vacuum) {
         Some((hold, _)) => hold == Hold::Alone && phase(acts).is_none(),
         None => false,
     }
@@ -166,7 +166,7 @@ fn are_drops_before(acts: &[Act], k: usize) -> bool
 
 /// The position right after the barrier of Update behind which the desk's phase Remove is done. None where
 /// that phase does not stand or is not done: the desk may not begin to repair.
-pub fn removed(acts: &[Act], desk: u32) -> Option<usize>
+pub fn removal_end(acts: &[Act], desk: u32) -> Option<usize>
     ensures at { IfSome result (IsRemoved acts.now desk) }
     ensures only { IfSome result (λ at. (other : ℕ) → IsRemoved acts.now desk other → other ≡ at) }
     ensures none { IfNone result (IsPhaseRepairAllowed acts.now desk → ⊥) }

@@ -4,7 +4,7 @@ ghost use Rattle.std.specs.Prelude.{◌≡◌, ◌↔◌, IsTrue, All};
 ghost use Rattle.vec_history.specs.Settling.{is_lasting, lasting_events, IsSettledAllowed, IsFaultAllowed};
 ghost use Rattle.vec_history.specs.Deciding.{IsFaultBefore, IsSettledWithin};
 
-use vec_event::{Act, Event};
+use crate::{Act, Event};
 
 /// Whether the event goes to the log.
 pub fn is_lasting(event: &Event) -> bool

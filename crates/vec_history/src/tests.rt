@@ -1,6 +1,6 @@
 use super::*;
 use std::test::*;
-use vec_event::{Act, Event, Gate, Hold, Stage};
+use crate::{Act, Event, Gate, Hold, Stage};
 use vec_names::Tid;
 
 // The laws hold before any act.
@@ -72,8 +72,8 @@ fn a_short_history(rt: HostRuntime) {
     for (count, desk, gate, hold, may) in takings {
         assert!(rt; may_take(&acts[..count], desk, gate, hold) == may);
     }
-    assert!(rt; held(&acts[..2], 2, Gate::Update) == Some((Hold::Shared, 1)));
-    assert!(rt; held(&acts[..3], 1, Gate::Update) == None);
+    assert!(rt; hold_of(&acts[..2], 2, Gate::Update) == Some((Hold::Shared, 1)));
+    assert!(rt; hold_of(&acts[..3], 1, Gate::Update) == None);
 
     assert!(rt; phase(acts) == Some((1, Stage::Remove, 5)));
     assert!(rt; phase(&acts[..5]) == None);
@@ -86,7 +86,7 @@ fn a_short_history(rt: HostRuntime) {
     assert!(rt; last_barrier(&acts[..8], 1, Gate::Update, 5) == None);
     assert!(rt; last_barrier(acts, 1, Gate::Update, 5) == Some(7));
     assert!(rt; last_barrier(acts, 1, Gate::Update, 7) == None);
-    assert!(rt; removed(&acts[..8], 1) == None && removed(acts, 1) == Some(8));
+    assert!(rt; removal_end(&acts[..8], 1) == None && removal_end(acts, 1) == Some(8));
 
     // One lasting event, which is settled; and three faults.
     assert!(rt; is_lasting(&acts[6].event) && count_lasting(acts) == 1);

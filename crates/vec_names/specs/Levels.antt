@@ -1,10 +1,11 @@
 -- The level of a new node, by a random word of 64 bits. As in the HNSW paper with its usual scale 1 / ln m, a node reaches each
 -- further level with one chance in m; here in whole numbers.
 use Rattle.std.specs.Prelude.{ℕ, zero, suc, ◌+◌, ◌-◌, ◌/◌, ◌^◌, min, nat_lt, Bool, if◌then◌else◌}
+use Rattle.index_sizes.specs.declared.limits.TheConstants.{MOST_SLOTS}
 
 -- The highest level of a node: its slots, m for each level and m more, fit one item of a page, and the level one byte.
 abbrev pub most_level : ℕ → ℕ
-most_level m = min (1358 / m - 2) 255
+most_level m = min (MOST_SLOTS / m - 2) 255
 
 -- the lowest 2^64 / m^level words reach a level
 abbrev pub does_reach : ℕ → ℕ → ℕ → Bool

@@ -1,5 +1,6 @@
 -- The ranges of an index's parameters.
 use Rattle.std.specs.Prelude.{◌≡◌, ◌*◌, ◌≤◌}
+use Rattle.index_sizes.specs.declared.limits.TheConstants.{MOST_BITS, MOST_BLOCKS}
 use Rattle.vec_names.specs.declared.params.Kind.{Kind}
 use Rattle.vec_names.specs.declared.params.Kind.TheVariants.{Hnsw, Ivf}
 use Rattle.vec_names.specs.declared.params.Ops.TheVariants.{Hamming}
@@ -18,7 +19,7 @@ pub record IsGraphInRange (p : Params) : Type 0 where
 pub record AreListsInRange (p : Params) : Type 0 where
   pub hamming : p.ops ≡ Hamming
   pub lists_low : 1 ≤ p.lists
-  pub lists_high : p.lists ≤ 32768
+  pub lists_high : p.lists ≤ MOST_BLOCKS
   pub no_m : p.m ≡ 0
   pub no_ef : p.ef ≡ 0
 
@@ -29,5 +30,5 @@ IsInRangeOf Ivf p = AreListsInRange p
 -- every number is in its range
 pub record IsInRange (p : Params) : Type 0 where
   pub bits_low : 1 ≤ p.bits
-  pub bits_high : p.bits ≤ 64000
+  pub bits_high : p.bits ≤ MOST_BITS
   pub of_kind : IsInRangeOf p.kind p

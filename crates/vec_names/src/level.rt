@@ -3,12 +3,14 @@
 ghost use Rattle.std.specs.Prelude.{◌≡◌, ◌≤◌, ◌/◌, ◌^◌};
 ghost use Rattle.vec_names.specs.Levels.{most_level, level_of};
 
+use index_sizes::MOST_SLOTS;
+
 /// The highest level of a node where upper layers have `m` slots and the lowest one twice as many: its slots fit
 /// one item of a page, and the level one byte.
 pub fn most_level(m: u16) -> u8
     ensures { result ≡ most_level m }
 {
-    let fitting = if m == 0 { 0 } else { 1358 / m };
+    let fitting = if m == 0 { 0 } else { MOST_SLOTS as u16 / m };
     fitting.saturating_sub(2).min(255) as u8
 }
 

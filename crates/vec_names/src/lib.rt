@@ -1,10 +1,9 @@
 //! The names that every other part speaks in: places of items, rows of the indexed table, and an
-//! index's parameters; with the level of a new node, the six bytes that spell a place, and lists and maps as values.
+//! index's parameters; with the level of a new node, the six bytes that spell a place, and maps as values.
 #![tactic(auto)]
 
 mod heap_id;
 mod level;
-mod listed;
 mod mapped;
 mod order;
 mod params;
@@ -13,7 +12,7 @@ mod tid;
 
 pub use heap_id::HeapId;
 pub use level::{level_of, most_level};
-pub use listed::Listed;
+pub use list_values::Listed;
 pub use mapped::Mapped;
 pub use order::ordered_by_block;
 pub use params::{Kind, Ops, Params};

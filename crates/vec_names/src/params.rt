@@ -3,6 +3,8 @@
 ghost use Rattle.std.specs.Prelude.{◌↔◌, IsTrue};
 ghost use Rattle.vec_names.specs.Params.{IsInRange, IsGraphInRange, AreListsInRange};
 
+use index_sizes::{MOST_BITS, MOST_BLOCKS};
+
 /// The two index methods.
 #[derive(Clone, Copy, Debug, PartialEq, Eq, Hash)]
 pub enum Kind {
@@ -42,7 +44,7 @@ impl Params {
     pub fn check(&self) -> bool
         ensures { IsTrue result ↔ IsInRange self.now }
     {
-        if self.bits < 1 || self.bits > 64_000 {
+        if self.bits < 1 || self.bits > MOST_BITS {
             return false;
         }
         match self.kind {
@@ -67,7 +69,7 @@ impl Params {
     {
         self.ops == Ops::Hamming
             && self.lists >= 1
-            && self.lists <= 32_768
+            && self.lists <= MOST_BLOCKS
             && self.m == 0
             && self.ef == 0
     }

@@ -1,7 +1,9 @@
 //! The place of an item on a page.
 
 ghost use Rattle.std.specs.Prelude.{◌≤◌, ◌<◌, ◌^◌};
+ghost use Rattle.index_sizes.specs.declared.limits.TheConstants.{LAST_BLOCK};
 
+use index_sizes::LAST_BLOCK;
 use crate::pointer;
 
 /// The place of an item: the number of its block, from 0 to 32,767, and its offset on that page,
@@ -10,7 +12,7 @@ use crate::pointer;
 pub struct Tid {
     pub block: u32,
     pub off: u16,
-    pub ghost within_blocks: { block ≤ 32767 },
+    pub ghost within_blocks: { block ≤ LAST_BLOCK },
     pub ghost counted_from_one: { 1 ≤ off },
     pub ghost in_two_bytes: { off < 2 ^ 16 },
 }
@@ -24,13 +26,13 @@ impl Tid {
     /// The place of this block at this offset, if there is one.
     #[inline]
     pub fn new(block: u32, off: u16) -> Option<Tid>
-        ensures known { IsSome result ↔ ((block ≤ 32767) × 1 ≤ off) }
+        ensures known { IsSome result ↔ ((block ≤ LAST_BLOCK) × 1 ≤ off) }
         ensures numbers { IfSome result (λ place. (place.block ≡ block) × (place.off ≡ off)) }
 
         // The same as a function of the numbers.
         ensures exact { result ≡ tid_of block off }
     {
-        if block <= 32_767 && off >= 1 {
+        if block <= LAST_BLOCK && off >= 1 {
             Some(Tid { block, off })
         } else {
             None

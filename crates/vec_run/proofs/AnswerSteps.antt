@@ -10,8 +10,8 @@ use Rattle.std.proofs.lemmas.List.Sorted.{ranks_by}
 use Rattle.std.proofs.lemmas.List.Elements.{filter_map-append}
 use Rattle.std.proofs.lemmas.Grind.{flat_map-append}
 use Rattle.bit_dist.specs.Orders.{dist_cmp_total}
-use Rattle.bit_dist.specs.Ranking.{ranked}
-use Rattle.bit_dist.proofs.Ranks.{ranked_is}
+use Rattle.list_values.specs.Ranking.{ranked}
+use Rattle.list_values.proofs.Ranks.{ranked_is}
 use Rattle.vec_run.specs.declared.command.Command.{Command}
 use Rattle.vec_run.specs.Replies.{Hit, hit_cmp, is_nearer, hit_with, hit_line, nearest}
 

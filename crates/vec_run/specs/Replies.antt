@@ -6,7 +6,7 @@ use Rattle.std.specs.Ordering.{nat_cmp, ordering_then, is_lt}
 use Rattle.vec_names.specs.declared.heap_id.HeapId.{HeapId}
 use Rattle.bit_dist.specs.declared.dist.Dist.{Dist}
 use Rattle.bit_dist.specs.Distances.{hamming_of, dist_cmp}
-use Rattle.bit_dist.specs.Ranking.{ranked}
+use Rattle.list_values.specs.Ranking.{ranked}
 use Rattle.vec_run.specs.declared.command.Command.{Command}
 use Rattle.vec_run.specs.declared.command.Command.TheVariants.{Row, Query}
 

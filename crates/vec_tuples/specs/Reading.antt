@@ -4,6 +4,7 @@ use Rattle.std.specs.Prelude.{ℕ, zero, suc, true, false, ◌+◌, ◌*◌, ◌
 use Rattle.std.specs.List.{list_all}
 use Rattle.std.specs.Option.{option_to_list, is_none}
 use Rattle.std.specs.Int.{w16, from_le_bytes}
+use Rattle.index_sizes.specs.declared.limits.TheConstants.{MOST_BITS, MOST_BLOCKS, MOST_SLOTS}
 use Rattle.vec_names.specs.declared.tid.Tid.{Tid}
 use Rattle.vec_names.specs.declared.params.Kind.{Kind}
 use Rattle.vec_names.specs.declared.params.Kind.TheVariants.{Hnsw, Ivf}
@@ -58,12 +59,12 @@ ef_of Ivf m = two_bytes_from 0 0
 
 unfoldable pub lists_of : Kind → Reader ℕ
 lists_of Hnsw = four_bytes_from 0 0
-lists_of Ivf = four_bytes_from 1 32768
+lists_of Ivf = four_bytes_from 1 MOST_BLOCKS
 
 unfoldable pub params : Reader Params
 params =
     viewed (λ x. record { kind = x.0; ops = x.1.0; bits = x.1.1.0; m = x.1.1.1.0; ef = x.1.1.1.1.0; lists = x.1.1.1.1.1 })
-    (and_then kind (λ k. ops_of k ⨟ four_bytes_from 1 64000 ⨟ and_then (m_of k) (λ m. ef_of k m ⨟ lists_of k)))
+    (and_then kind (λ k. ops_of k ⨟ four_bytes_from 1 MOST_BITS ⨟ and_then (m_of k) (λ m. ef_of k m ⨟ lists_of k)))
 
 -- the place at which a search begins; lists have none
 unfoldable pub entry_of : Kind → Reader (Option Tid)
@@ -71,7 +72,7 @@ entry_of Hnsw = optional_place
 entry_of Ivf = no_place
 
 unfoldable pub hint_of : Kind → Reader ℕ
-hint_of Hnsw = four_bytes_from 1 32768
+hint_of Hnsw = four_bytes_from 1 MOST_BLOCKS
 hint_of Ivf = four_bytes_from 0 0
 
 unfoldable pub meta : Reader Meta
@@ -104,7 +105,7 @@ centre p =
 -- whether there may be so many slots
 unfoldable pub is_slot_count : ℕ → ℕ → Bool
 is_slot_count zero count = count == 0
-is_slot_count (suc k) count = nat_le count 1358 && (nat_le 2 (count / suc k) && (nat_le (count / suc k) 257 && (count % suc k == 0)))
+is_slot_count (suc k) count = nat_le count MOST_SLOTS && (nat_le 2 (count / suc k) && (nat_le (count / suc k) 257 && (count % suc k == 0)))
 
 unfoldable pub slot_count : ℕ → Reader ℕ
 slot_count m = field 2 (λ b. only_if (is_slot_count m (from_le_bytes w16 b)) (from_le_bytes w16 b))

@@ -2,6 +2,7 @@
 use Rattle.std.specs.Prelude.{◌≡◌, ℕ, zero, suc, ◌+◌, ◌*◌, ◌/◌, ◌≤◌, ◌<◌, ◌^◌, Bool, true, false, List, [], ◌∷◌, ◌++◌, length, replicate, Option, Some, None}
 use Rattle.std.specs.List.{flat_map, AllByRecursion}
 use Rattle.std.specs.Int.{w16, w32, to_le_bytes}
+use Rattle.index_sizes.specs.declared.limits.TheConstants.{MOST_BLOCKS, MOST_SLOTS}
 use Rattle.vec_names.specs.declared.tid.Tid.{Tid}
 use Rattle.vec_names.specs.declared.heap_id.HeapId.{HeapId}
 use Rattle.vec_names.specs.declared.params.Kind.{Kind}
@@ -53,7 +54,7 @@ IsEntryOf Ivf entry = entry ≡ None
 
 -- a graph looks for room from one of its blocks on, lists do not
 abbrev pub IsHintOf : Kind → ℕ → Type 0
-IsHintOf Hnsw hint = (1 ≤ hint) × (hint ≤ 32768)
+IsHintOf Hnsw hint = (1 ≤ hint) × (hint ≤ MOST_BLOCKS)
 IsHintOf Ivf hint = hint ≡ 0
 
 -- which values have a meta tuple
@@ -116,7 +117,7 @@ links_bytes l = links_kind l.deleted ∷ l.version ∷ to_le_bytes w16 (length l
 
 -- twice m slots for the lowest layer, and m for each of the level's layers above it
 abbrev pub IsSlotCount : ℕ → ℕ → Type 0
-IsSlotCount m count = (count ≤ 1358) × (level : ℕ) × (level ≤ 255) × (count ≡ (level + 2) * m)
+IsSlotCount m count = (count ≤ MOST_SLOTS) × (level : ℕ) × (level ≤ 255) × (count ≡ (level + 2) * m)
 
 -- a deleted element has no neighbour
 abbrev pub IsSlotOf : Bool → Option Tid → Type 0

@@ -8,12 +8,13 @@ ghost use Rattle.vec_tuples.specs.Spelling.{length_word, bits_bytes, beside};
 ghost use Rattle.vec_tuples.specs.Reading.{clear_places, bit_value, value_with, value_of};
 ghost use Rattle.byte_fields.specs.Answers.{Gives};
 
+use index_sizes::MOST_BITS;
 use byte_fields::{Stop, four_bytes_from, packed_places};
 
 /// The word that stands before a value of so many places, as PostgreSQL keeps a length: the number of
 /// bytes from the word on, shifted left by two.
 pub fn length_word(count: u32) -> u32
-    requires { count ≤ 64000 }
+    requires { count ≤ MOST_BITS }
     ensures { result ≡ length_word count }
 {
     4 * (8 + (count + 7) / 8)
@@ -23,7 +24,7 @@ pub fn length_word(count: u32) -> u32
 #[tactic(auto, unfolding(crate::specs::Reading::bit_value))]
 pub fn bit_value(count: u32, bytes: &[u8]) -> Result<(&[u8], &[u8]), Stop>
     requires some { 1 ≤ count }
-    requires few { count ≤ 64000 }
+    requires few { count ≤ MOST_BITS }
     ensures reads { Gives (λ x. (take count (unpacked x.0.now), x.1.now)) result (bit_value count bytes.now) }
     ensures kept { IfOk result (λ x. Packed count x.0.now) }
 {
@@ -38,7 +39,7 @@ pub fn bit_value(count: u32, bytes: &[u8]) -> Result<(&[u8], &[u8]), Stop>
 #[tactic(auto, unfolding(crate::specs::Reading::value_of))]
 pub fn value_of(deleted: bool, count: u32, bytes: &[u8]) -> Result<(&[u8], &[u8]), Stop>
     requires some { 1 ≤ count }
-    requires few { count ≤ 64000 }
+    requires few { count ≤ MOST_BITS }
     ensures reads { Gives (λ x. (take count (unpacked x.0.now), x.1.now)) result (value_of deleted count bytes.now) }
     ensures kept { IfOk result (λ x. Packed count x.0.now) }
 {
@@ -51,7 +52,7 @@ pub fn value_of(deleted: bool, count: u32, bytes: &[u8]) -> Result<(&[u8], &[u8]
 
 fn clear_value(count: u32, bytes: &[u8]) -> Result<(&[u8], &[u8]), Stop>
     requires some { 1 ≤ count }
-    requires few { count ≤ 64000 }
+    requires few { count ≤ MOST_BITS }
     ensures reads { Gives (λ x. (take count (unpacked x.0.now), x.1.now)) result (value_with (clear_places count) count bytes.now) }
     ensures kept { IfOk result (λ x. Packed count x.0.now) }
 {
@@ -65,7 +66,7 @@ fn clear_value(count: u32, bytes: &[u8]) -> Result<(&[u8], &[u8]), Stop>
 #[tactic(auto, unfolding(crate::specs::Reading::clear_places, byte_fields::specs::Reading::field))]
 fn clear_places(count: u32, bytes: &[u8]) -> Result<(&[u8], &[u8]), Stop>
     requires some { 1 ≤ count }
-    requires few { count ≤ 64000 }
+    requires few { count ≤ MOST_BITS }
     ensures reads { Gives (λ x. (take count (unpacked x.0.now), x.1.now)) result (clear_places count bytes.now) }
     ensures kept { IfOk result (λ x. Packed count x.0.now) }
 {
@@ -83,7 +84,7 @@ fn clear_places(count: u32, bytes: &[u8]) -> Result<(&[u8], &[u8]), Stop>
 /// Whether each of these bytes is 0, which then hold so many places that are not set.
 fn are_clear(count: u32, bytes: &[u8]) -> bool
     requires some { 1 ≤ count }
-    requires few { count ≤ 64000 }
+    requires few { count ≤ MOST_BITS }
     requires long { length bytes.now ≡ (count + 7) / 8 }
     ensures told { result ≡ list_all (λ x. x == 0) bytes.now }
     ensures clear { IsTrue result → take count (unpacked bytes.now) ≡ replicate count false }
@@ -100,7 +101,7 @@ fn are_zero(bytes: &[u8]) -> bool
 
 /// The bytes of a value before its places.
 pub fn value_head(count: u32) -> [u8; 8]
-    requires { count ≤ 64000 }
+    requires { count ≤ MOST_BITS }
     ensures { result ≡ to_le_bytes w32 (length_word count) ++ to_le_bytes w32 count }
 {
     let w = length_word(count).to_le_bytes();

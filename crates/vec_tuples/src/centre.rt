@@ -10,6 +10,7 @@ ghost use Rattle.byte_fields.specs.Answers.{Gives};
 ghost use Rattle.vec_tuples.specs.Answers.{IsReading, BeginsSome};
 ghost use Rattle.vec_tuples.specs.declared.centre.CentreTuple.{CentreTuple};
 
+use index_sizes::MOST_BITS;
 use crate::bits::{bit_value, length_word};
 use crate::fault::TupleFault;
 use bit_code::Bits;
@@ -93,7 +94,7 @@ pub fn centre_head(bytes: &[u8], params: &Params) -> Option<(u32, u32)>
 #[tactic(auto, unfolding(crate::specs::Reading::centre))]
 fn centre(params: Params, bytes: &[u8]) -> Result<(u32, u32, &[u8], &[u8]), Stop>
     requires some { 1 ≤ params.bits }
-    requires few { params.bits ≤ 64000 }
+    requires few { params.bits ≤ MOST_BITS }
     ensures reads { Gives (λ x. (centre_with x.0 x.1 (take params.bits (unpacked x.2.now)), x.3.now)) result (centre params bytes.now) }
     ensures kept { IfOk result (λ x. Packed params.bits x.2.now) }
 {
@@ -121,7 +122,7 @@ pub fn write_centre(centre: &CentreTuple, into: &mut Vec<u8>) -> Result<(), Tupl
 
 /// The bytes before the places.
 fn head(first: u32, aim: u32, count: u32) -> [u8; 20]
-    requires { count ≤ 64000 }
+    requires { count ≤ MOST_BITS }
     ensures { result ≡ to_le_bytes w32 first ++ (to_le_bytes w32 aim ++ (0 ∷ 0 ∷ 0 ∷ 0 ∷ to_le_bytes w32 (length_word count) ++ to_le_bytes w32 count)) }
 {
     let f = first.to_le_bytes();

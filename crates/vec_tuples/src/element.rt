@@ -9,6 +9,7 @@ ghost use Rattle.byte_fields.specs.Answers.{Gives};
 ghost use Rattle.vec_tuples.specs.Answers.{IsReading, BeginsSome};
 ghost use Rattle.vec_tuples.specs.declared.element.Element.{Element};
 
+use index_sizes::MOST_BITS;
 use crate::bits::{clear_if, value_head, value_of};
 use crate::fault::TupleFault;
 use crate::rows::{fill_rows, rows};
@@ -131,7 +132,7 @@ pub fn element_head(bytes: &[u8], params: &Params) -> Option<ElementHead>
 #[tactic(auto, unfolding(crate::specs::Reading::element))]
 fn element_at(params: Params, bytes: &[u8]) -> Result<(ElementHead, &[u8], &[u8]), Stop>
     requires some { 1 ≤ params.bits }
-    requires few { params.bits ≤ 64000 }
+    requires few { params.bits ≤ MOST_BITS }
     ensures reads { Gives (λ x. (element_with x.0 (take params.bits (unpacked x.1.now)), x.2.now)) result (element params bytes.now) }
     ensures kept { IfOk result (λ x. Packed params.bits x.1.now) }
 {

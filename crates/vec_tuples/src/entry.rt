@@ -11,6 +11,7 @@ ghost use Rattle.byte_fields.specs.Answers.{Gives};
 ghost use Rattle.vec_tuples.specs.Answers.{IsReading, BeginsSome};
 ghost use Rattle.vec_tuples.specs.declared.entry.EntryRow.{EntryRow};
 
+use index_sizes::MOST_BITS;
 use crate::bits::{bit_value, length_word};
 use crate::fault::TupleFault;
 use bit_code::Bits;
@@ -69,7 +70,7 @@ pub fn read_entry(alloc: Global, bytes: &[u8], params: &Params) -> Result<EntryR
 #[tactic(auto, unfolding(crate::specs::Reading::entry))]
 fn entry(params: Params, bytes: &[u8]) -> Result<(HeapId, &[u8], &[u8]), Stop>
     requires some { 1 ≤ params.bits }
-    requires few { params.bits ≤ 64000 }
+    requires few { params.bits ≤ MOST_BITS }
     ensures reads { Gives (λ x. (row_with x.0 (take params.bits (unpacked x.1.now)), x.2.now)) result (entry params bytes.now) }
     ensures kept { IfOk result (λ x. Packed params.bits x.1.now) }
 {
@@ -107,7 +108,7 @@ pub fn fill_entry(id: HeapId, bits: &Bits, into: &mut [u8])
 
 /// The bytes before the places.
 fn head(id: HeapId, count: u32) -> [u8; 16]
-    requires { count ≤ 64000 }
+    requires { count ≤ MOST_BITS }
     ensures { result ≡ heap_id_bytes id ++ (0 ∷ 0 ∷ to_le_bytes w32 (length_word count) ++ to_le_bytes w32 count) }
 {
     let i = id.spelled();

@@ -7,6 +7,7 @@ ghost use Rattle.vec_tuples.specs.Reading.{entry_of, hint_of, meta};
 ghost use Rattle.vec_tuples.specs.Answers.{IsReading, BeginsSome, IsFault};
 ghost use Rattle.vec_tuples.specs.declared.meta.Meta.{Meta};
 
+use index_sizes::MOST_BLOCKS;
 use crate::fault::TupleFault;
 use crate::parameters::params;
 use byte_fields::{
@@ -104,7 +105,7 @@ fn hint_of(kind: Kind, bytes: &[u8]) -> Result<(u32, &[u8]), Stop>
     ensures { Gives (λ x. (x.0, x.1.now)) result (hint_of kind bytes.now) }
 {
     match kind {
-        Kind::Hnsw => four_bytes_from(1, 32_768, bytes),
+        Kind::Hnsw => four_bytes_from(1, MOST_BLOCKS, bytes),
         Kind::Ivf => four_bytes_from(0, 0, bytes),
     }
 }

@@ -4,6 +4,7 @@ ghost use Rattle.std.specs.Prelude.{◌≡◌, ◌≤◌, IfOk};
 ghost use Rattle.byte_fields.specs.Answers.{Gives};
 ghost use Rattle.vec_tuples.specs.Reading.{kind, ops_of, m_of, ef_of, lists_of, params};
 
+use index_sizes::{MOST_BITS, MOST_BLOCKS};
 use byte_fields::{Stop, four_bytes_from, two_bytes_from};
 use vec_names::{Kind, Ops, Params};
 
@@ -13,7 +14,7 @@ pub fn params(bytes: &[u8]) -> Result<(Params, &[u8]), Stop>
 {
     let (kind, rest) = kind(bytes)?;
     let (ops, rest) = ops_of(kind, rest)?;
-    let (bits, rest) = four_bytes_from(1, 64_000, rest)?;
+    let (bits, rest) = four_bytes_from(1, MOST_BITS, rest)?;
     let (m, rest) = m_of(kind, rest)?;
     let (ef, rest) = ef_of(kind, m, rest)?;
     let (lists, rest) = lists_of(kind, rest)?;
@@ -85,6 +86,6 @@ fn lists_of(kind: Kind, bytes: &[u8]) -> Result<(u32, &[u8]), Stop>
 {
     match kind {
         Kind::Hnsw => four_bytes_from(0, 0, bytes),
-        Kind::Ivf => four_bytes_from(1, 32_768, bytes),
+        Kind::Ivf => four_bytes_from(1, MOST_BLOCKS, bytes),
     }
 }

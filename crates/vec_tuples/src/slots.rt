@@ -8,6 +8,7 @@ ghost use Rattle.byte_fields.specs.Answers.{Gives};
 ghost use Rattle.vec_tuples.specs.Reading.{slot_count, is_slot_count};
 ghost use Rattle.vec_tuples.specs.Answers.{Passes};
 
+use index_sizes::MOST_SLOTS;
 use byte_fields::{Stop, put, slot_of};
 use vec_names::Tid;
 
@@ -43,7 +44,7 @@ fn has_level(m: u16, count: u16) -> bool
     requires { m ≢ 0 }
     ensures { result ≡ is_slot_count m count }
 {
-    if count > 1_358 {
+    if usize::from(count) > MOST_SLOTS {
         return false;
     }
     let parts = count / m;

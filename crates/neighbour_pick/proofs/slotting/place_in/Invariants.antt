@@ -1,5 +1,5 @@
 use Rattle.std.proofs.Common.{◌≡◌, ◌++◌, map, take, drop}
-use Rattle.bit_dist.specs.Ranking.{placed}
+use Rattle.list_values.specs.Ranking.{placed}
 use Rattle.neighbour_pick.specs.Order.{candidate_of}
 use Rattle.neighbour_pick.specs.Standing.{rival_at, is_before}
 use Rattle.neighbour_pick.proofs.slotting.place_in.Given as goal

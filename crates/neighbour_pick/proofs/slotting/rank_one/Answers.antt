@@ -1,6 +1,6 @@
 use Rattle.std.proofs.Common.{◌≡◌, ℕ, List, map, not, is_none, ap, subst, ◌∙◌}
 use Rattle.std.specs.List.{insert}
-use Rattle.bit_dist.specs.Ranking.{placed}
+use Rattle.list_values.specs.Ranking.{placed}
 use Rattle.neighbour_pick.specs.declared.found.SlotSeen.{SlotSeen}
 use Rattle.neighbour_pick.specs.Order.{candidate_of}
 use Rattle.neighbour_pick.specs.Slots.{Rival}

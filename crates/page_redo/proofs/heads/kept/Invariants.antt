@@ -1,5 +1,5 @@
 use Rattle.std.proofs.Common.{◌≡◌, ◌≤◌, ◌++◌, length, drop}
-use Rattle.vec_graph.specs.Effect.{kept}
+use Rattle.list_values.specs.Masks.{kept}
 use Rattle.page_redo.proofs.heads.kept.Given as goal
 
 abbrev pub invariant-ids : goal.invariant-ids

@@ -1,5 +1,5 @@
 use Rattle.std.proofs.Common.{◌≡◌, ◌++◌, drop}
-use Rattle.vec_graph.specs.Effect.{kept}
+use Rattle.list_values.specs.Masks.{kept}
 use Rattle.vec_graph.proofs.changes.kept_ids.Given as goal
 
 -- what is left so far, and what the rest of the mask leaves of the other ids

@@ -1,0 +1,63 @@
+//! What redo of an event that changes tuples which stand there makes of the graph that the pages stand for: laws, and no work.
+//!
+//! Redo itself tests versions, deleted states, and the numbers of ids and slots. What a law asks besides is what an event that
+//! the rules allow gives.
+
+ghost use Rattle.std.specs.Prelude.{◌≡◌, ◌≤◌, ◌<◌, ℕ, List, Option, Some, slice_get, All};
+ghost use Rattle.vec_names.specs.declared.tid.Tid.{Tid as Place};
+ghost use Rattle.vec_names.specs.declared.heap_id.HeapId.{HeapId};
+ghost use Rattle.vec_history.specs.declared.event.Event.TheVariants.{Join, Link, Relist, Drop, Mark, Entry, Hint};
+ghost use Rattle.page_bytes.specs.Content.{Content, IsPage};
+ghost use Rattle.vec_graph.specs.declared.node.Node.{Node};
+ghost use Rattle.vec_graph.specs.declared.graph.Graph.{Graph};
+ghost use Rattle.vec_graph.specs.Graph.{node_at, HasLevel};
+ghost use Rattle.vec_graph.specs.Effect.{effect};
+ghost use Rattle.graph_pages.specs.Standing.{Stands};
+ghost use Rattle.graph_pages.specs.Effects.{RedoIsEffect, AreRedone};
+
+/// A law, and no work. Redo of another hint is that event's effect on the graph, where the graph has so many blocks.
+pub fn law_hint()
+    ensures { (pages : List Content) (g : Graph) (hint : ℕ) → hint ≤ g.blocks → RedoIsEffect pages g (Hint hint) }
+{}
+
+/// A law, and no work. Redo of another entry point, or of none, is that event's effect on the graph, where a node of the
+/// stated level stands at the entry point.
+pub fn law_entry()
+    ensures { (pages : List Content) (g : Graph) (to : Option Place) (level : ℕ) → ((at : Place) → to ≡ Some at → HasLevel g at level)
+        → RedoIsEffect pages g (Entry to level) }
+{}
+
+/// A law, and no work. Redo of a slot that comes to name a place is that event's effect on the graph, where the neighbour
+/// tuple is that of the node, and the place is on one of the graph's blocks.
+pub fn law_link()
+    ensures { (pages : List Content) (g : Graph) (at list_at to : Place) (version slot : ℕ) (n : Node) → node_at g at ≡ Some n
+        → n.list_at ≡ list_at → to.block < g.blocks → RedoIsEffect pages g (Link at list_at version slot to) }
+{}
+
+/// A law, and no work. Redo of all slots of a node is that event's effect on the graph, where the neighbour tuple is that of
+/// the node, and each place that they name is on one of the graph's blocks.
+pub fn law_relist()
+    ensures { (pages : List Content) (g : Graph) (at list_at : Place) (version : ℕ) (lists : List (Option Place)) (n : Node)
+        → node_at g at ≡ Some n → n.list_at ≡ list_at
+        → ((slot : ℕ) (to : Place) → slice_get lists slot ≡ Some (Some to) → to.block < g.blocks)
+        → RedoIsEffect pages g (Relist at list_at version lists) }
+{}
+
+/// A law, and no work. Redo of a further id of an element is that event's effect on the graph.
+pub fn law_join()
+    ensures { (pages : List Content) (g : Graph) (at : Place) (version : ℕ) (id : HeapId) → RedoIsEffect pages g (Join at version id) }
+{}
+
+/// A law, and no work. Redo of an element's ids that go is that event's effect on the graph.
+pub fn law_drop()
+    ensures { (pages : List Content) (g : Graph) (at : Place) (version gone : ℕ) → RedoIsEffect pages g (Drop at version gone) }
+{}
+
+/// A law, and no work. Redo of a node's deletion, on the page of its element and on that of its neighbour tuple, which may be one
+/// page, is that event's effect on the graph, where the neighbour tuple is that of the node.
+pub fn law_mark()
+    ensures { (pages after : List Content) (g : Graph) (at list_at : Place) (version wrap number : ℕ) (n : Node)
+        → All IsPage pages → Stands pages g → node_at g at ≡ Some n → n.list_at ≡ list_at
+        → AreRedone g.params wrap number (Mark at list_at version) pages after
+        → Stands after (effect wrap (Mark at list_at version) g) }
+{}

@@ -1,0 +1,29 @@
+//! Pages that stand for a graph, and that redo on them is the effect on the graph.
+//!
+//! `graph_of` reads a graph from pages, or names the first block that breaks a rule of the format; `specs/Standing.antt` says
+//! which pages stand for which graph. It takes memory for the graph. The laws of `effects` tie pages and graphs: redo of an
+//! event that changes tuples which stand there is the event's effect on the graph. Those of `fitting` say when such an event
+//! fits the pages.
+#![tactic(auto)]
+
+mod blocks;
+mod effects;
+mod fitting;
+mod graph_fault;
+mod law;
+mod naming;
+mod nodes;
+mod places;
+mod rules;
+mod standing;
+
+pub use effects::{law_drop, law_entry, law_hint, law_join, law_link, law_mark, law_relist};
+pub use fitting::{
+    law_drop_fits, law_entry_fits, law_hint_fits, law_join_fits, law_link_fits, law_relist_fits,
+};
+pub use graph_fault::GraphFault;
+pub use law::law_standing;
+pub use standing::graph_of;
+
+#[cfg(test)]
+mod tests;

@@ -1,0 +1,367 @@
+//! Pages that stand for a graph, and pages that break each of the rules.
+
+use crate::{
+    GraphFault, graph_of, law_drop, law_drop_fits, law_entry, law_entry_fits,
+    law_hint, law_hint_fits, law_join, law_join_fits, law_link, law_link_fits, law_mark,
+    law_relist, law_relist_fits, law_standing,
+};
+use bit_code::{Bits, read_bits};
+use page_bytes::{Page, PageKind};
+use page_redo::redo;
+use std::alloc::Global;
+use std::test::*;
+use vec_history::Event;
+use vec_graph::Node;
+use vec_names::{HeapId, Kind, Listed, Ops, Params, Tid};
+
+/// A graph of four places with m 2.
+const GRAPH: Params = Params {
+    kind: Kind::Hnsw,
+    ops: Ops::Hamming,
+    bits: 4,
+    m: 2,
+    ef: 4,
+    lists: 0,
+};
+
+/// The element at 1/1 of the row 1/1 with the value 0000, its list at 1/2.
+const ELEMENT: [u8; 81] = [
+    1, 0, 0, 1, 0, 0, 1, 0, 1, 0, 255, 255, 255, 255, 0, 0, 255, 255, 255, 255, 0, 0, 255, 255,
+    255, 255, 0, 0, 255, 255, 255, 255, 0, 0, 255, 255, 255, 255, 0, 0, 255, 255, 255, 255, 0, 0,
+    255, 255, 255, 255, 0, 0, 255, 255, 255, 255, 0, 0, 255, 255, 255, 255, 0, 0, 0, 0, 1, 0, 2, 0,
+    0, 0, 0x24, 0, 0, 0, 4, 0, 0, 0, 0,
+];
+
+/// Its four slots.
+const SLOTS: [u8; 28] = [
+    2, 1, 4, 0, 255, 255, 255, 255, 0, 0, 255, 255, 255, 255, 0, 0, 255, 255, 255, 255, 0, 0, 255,
+    255, 255, 255, 0, 0,
+];
+
+/// The meta tuple of that graph without an entry point, with the hint 1.
+const META: [u8; 32] = [
+    0x56, 0x54, 0x49, 0x42, 2, 0, 1, 1, 4, 0, 0, 0, 2, 0, 4, 0, 0, 0, 0, 0, 255, 255, 255, 255, 0,
+    0, 0, 0, 1, 0, 0, 0,
+];
+
+fn place(off: u16) -> Tid {
+    Tid {
+        block: 1,
+        off: off.max(1),
+    }
+}
+
+fn row(off: u16) -> HeapId {
+    HeapId {
+        block: 1,
+        off: off.max(1),
+    }
+}
+
+/// So many empty slots.
+fn slots(alloc: Global, count: usize) -> Result<Listed<Option<Tid>>, Fail> {
+    let mut slots = Listed::new(alloc);
+    for _ in 0..count {
+        slots.push(None)?;
+    }
+    Ok(slots)
+}
+
+/// The event of a new node of level 0, with its list at the next offset.
+fn put(alloc: Global, off: u16, version: u8, bits: Bits, count: usize) -> Result<Event, Fail> {
+    Ok(Event::Put {
+        at: place(off),
+        list_at: place(off.min(9) + 1),
+        version,
+        level: 0,
+        id: row(1),
+        bits,
+        lists: slots(alloc, count)?,
+    })
+}
+
+/// Whether the event fits the page of a block; then its number is given to the page, and else the page stays.
+fn fits(event: &Event, params: Params, wrap: u8, block: u32, page: &mut Page) -> bool {
+    if !params.check() {
+        return false;
+    }
+    let before = page.copied();
+    let fits = redo(event, &params, wrap, 0x0708, block, page).is_ok();
+    if fits {
+        page.number() == 0x0708
+    } else {
+        page.bytes() != before.bytes()
+    }
+}
+
+
+/// The parts of a small index: the meta tuple with the entry 1/1, the element 1/1 with its list 1/2, and the element 2/1
+/// with its list 1/3, whose first slot names 2/1.
+#[derive(Clone, Copy)]
+struct Parts {
+    meta: [u8; 32],
+    element: [u8; 81],
+    list: [u8; 28],
+    other_list: [u8; 28],
+    other_element: [u8; 81],
+}
+
+/// A part of that index.
+#[derive(Clone, Copy)]
+enum Part {
+    Meta,
+    Element,
+    List,
+    OtherList,
+    OtherElement,
+}
+
+/// The bytes with another byte at a place.
+fn with_byte<const N: usize>(bytes: [u8; N], at: usize, byte: u8) -> [u8; N] {
+    let mut bytes = bytes;
+    if let Some(there) = bytes.get_mut(at) {
+        *there = byte;
+    }
+    bytes
+}
+
+/// The bytes with a place from 0/0 to 255/255 in six of them.
+fn with_place<const N: usize>(bytes: [u8; N], at: usize, block: u8, off: u8) -> [u8; N] {
+    let mut bytes = bytes;
+    if at < 100 {
+        for (i, byte) in [0, 0, block, 0, off, 0].iter().enumerate() {
+            if let Some(there) = bytes.get_mut(at + i) {
+                *there = *byte;
+            }
+        }
+    }
+    bytes
+}
+
+fn small_index() -> Parts {
+    Parts {
+        meta: with_place(META, 20, 1, 1),
+        element: ELEMENT,
+        list: SLOTS,
+        other_list: with_place(SLOTS, 4, 2, 1),
+        other_element: with_place(ELEMENT, 64, 1, 3),
+    }
+}
+
+/// The parts with another byte at a place of one of them.
+fn changed(part: Part, at: usize, byte: u8) -> Parts {
+    let parts = small_index();
+    match part {
+        Part::Meta => Parts {
+            meta: with_byte(parts.meta, at, byte),
+            ..parts
+        },
+        Part::Element => Parts {
+            element: with_byte(parts.element, at, byte),
+            ..parts
+        },
+        Part::List => Parts {
+            list: with_byte(parts.list, at, byte),
+            ..parts
+        },
+        Part::OtherList => Parts {
+            other_list: with_byte(parts.other_list, at, byte),
+            ..parts
+        },
+        Part::OtherElement => Parts {
+            other_element: with_byte(parts.other_element, at, byte),
+            ..parts
+        },
+    }
+}
+
+/// The pages of these parts, each of its kind.
+fn pages_of(kinds: [PageKind; 3], parts: &Parts) -> [Page; 3] {
+    let mut meta = Page::fresh(kinds[0]);
+    meta.add_item(&parts.meta);
+    let mut first = Page::fresh(kinds[1]);
+    first.add_item(&parts.element);
+    first.add_item(&parts.list);
+    first.add_item(&parts.other_list);
+    let mut second = Page::fresh(kinds[2]);
+    second.add_item(&parts.other_element);
+    [meta, first, second]
+}
+
+const KINDS: [PageKind; 3] = [PageKind::Meta, PageKind::Hnsw, PageKind::Hnsw];
+
+/// The block that breaks a rule, or None where the pages stand for a graph.
+fn broken(alloc: Global, pages: &[Page; 3]) -> Result<Option<u32>, GraphFault> {
+    match graph_of(alloc, pages) {
+        Ok(_) => Ok(None),
+        Err(GraphFault::Bad { block }) => Ok(Some(block)),
+        Err(GraphFault::Memory) => Err(GraphFault::Memory),
+    }
+}
+
+/// Whether the node is that of `ELEMENT` and `SLOTS`.
+fn is_node(node: &Node) -> bool {
+    node.level == 0
+        && node.version == 1
+        && !node.deleted
+        && node.bits.bytes() == [0u8].as_slice()
+        && node.ids.as_slice() == [row(1)].as_slice()
+        && node.list_at == place(2)
+        && node.slots.as_slice() == [None, None, None, None].as_slice()
+}
+
+#[test]
+fn the_graph_of_a_put(rt: HostRuntime) -> Result<(), Fail> {
+    let alloc = rt.alloc();
+    let mut meta = Page::fresh(PageKind::Meta);
+    meta.add_item(&META);
+    let mut first = Page::fresh(PageKind::Hnsw);
+    let new = put(alloc, 1, 1, read_bits(alloc, "0000")?, 4)?;
+    assert!(rt; fits(&new, GRAPH, 255, 1, &mut first));
+    let mut pages = [meta, first];
+    let graph = graph_of(alloc, &pages)?;
+    assert!(rt; graph.params == GRAPH && graph.entry.is_none() && graph.level == 0);
+    assert!(rt; graph.hint == 1 && graph.blocks == 2 && graph.nodes.len() == 1);
+    let Some(node) = graph.nodes.get(place(1)) else {
+        panic!(rt; "no node stands at 1/1")
+    };
+    assert!(rt; is_node(node));
+    let to = Some(place(1));
+    assert!(rt; fits(&Event::Entry { to, level: 0 }, GRAPH, 255, 0, &mut pages[0]));
+    let graph = graph_of(alloc, &pages)?;
+    assert!(rt; graph.entry == to && graph.level == 0 && graph.nodes.len() == 1);
+    Ok(())
+}
+
+#[test]
+fn a_byte_that_breaks_a_rule(rt: HostRuntime) -> Result<(), Fail> {
+    // The part, the byte and its value, and the block that breaks a rule.
+    for (part, at, byte, block) in [
+        // The magic number is another; the hint is the number of blocks, and one more.
+        (Part::Meta, 0, 0, Some(0)),
+        (Part::Meta, 28, 3, None),
+        (Part::Meta, 28, 4, Some(0)),
+        // The entry is 2/1; it is a list; it is on no block; the level is another.
+        (Part::Meta, 22, 2, None),
+        (Part::Meta, 24, 2, Some(0)),
+        (Part::Meta, 22, 3, Some(0)),
+        (Part::Meta, 26, 1, Some(0)),
+        // An element of level 1, which has six slots: the entry's level is then another; and one on block 2.
+        (Part::Element, 1, 1, Some(0)),
+        (Part::OtherElement, 1, 1, Some(2)),
+        // A list of another version, and that of a deleted element.
+        (Part::List, 1, 2, Some(1)),
+        (Part::OtherList, 1, 2, Some(2)),
+        (Part::OtherElement, 3, 2, Some(2)),
+        // The two elements name one list, and no element names the other; one names no list.
+        (Part::OtherElement, 68, 2, Some(1)),
+        (Part::OtherElement, 68, 4, Some(1)),
+        (Part::Element, 68, 3, Some(1)),
+        // An item that is neither an element nor a list, so that another list is not named.
+        (Part::OtherElement, 0, 5, Some(1)),
+        (Part::OtherList, 0, 5, Some(1)),
+        // A slot names an offset where nothing stands, which is no matter; and a block that is not there.
+        (Part::OtherList, 8, 9, None),
+        (Part::OtherList, 6, 3, Some(1)),
+    ] {
+        let pages = pages_of(KINDS, &changed(part, at, byte));
+        assert!(rt; broken(rt.alloc(), &pages)? == block);
+    }
+    Ok(())
+}
+
+#[test]
+fn pages_that_break_a_rule(rt: HostRuntime) -> Result<(), Fail> {
+    let alloc = rt.alloc();
+    assert!(rt; broken(alloc, &pages_of(KINDS, &small_index()))? == None);
+
+    // A page of a wrong kind, whose tuples are counted all the same, breaks at that page alone; of two the lower is named.
+    for (kinds, block) in [
+        ([PageKind::Hnsw, PageKind::Hnsw, PageKind::Hnsw], 0),
+        ([PageKind::Meta, PageKind::Meta, PageKind::Hnsw], 1),
+        ([PageKind::Meta, PageKind::Hnsw, PageKind::IvfLists], 2),
+        ([PageKind::Meta, PageKind::IvfEntries, PageKind::Meta], 1),
+    ] {
+        assert!(rt; broken(alloc, &pages_of(kinds, &small_index()))? == Some(block));
+    }
+
+    // One item more: beside the meta tuple, of neither kind, a list that no element names, and an element that names the list
+    // of another one.
+    for (block, item, bad) in [(0, 9, 0), (1, 9, 1), (2, 9, 2)] {
+        let mut pages = pages_of(KINDS, &small_index());
+        if let Some(page) = pages.get_mut(block) {
+            page.add_item(&[item]);
+        }
+        assert!(rt; broken(alloc, &pages)? == Some(bad));
+    }
+    let mut pages = pages_of(KINDS, &small_index());
+    pages[2].add_item(&SLOTS);
+    assert!(rt; broken(alloc, &pages)? == Some(2));
+    let mut pages = pages_of(KINDS, &small_index());
+    pages[2].add_item(&ELEMENT);
+    assert!(rt; broken(alloc, &pages)? == Some(1));
+
+    // The number of a page is no matter.
+    let mut pages = pages_of(KINDS, &small_index());
+    pages[1].set_number(7);
+    assert!(rt; broken(alloc, &pages)? == None);
+
+    // There is no block 0.
+    let none: [Page; 0] = [];
+    assert!(rt; graph_of(alloc, &none).err() == Some(GraphFault::Bad { block: 0 }));
+    Ok(())
+}
+
+#[test]
+fn redo_is_the_effect_on_the_graph(rt: HostRuntime) -> Result<(), Fail> {
+    let alloc = rt.alloc();
+    let mut pages = pages_of(KINDS, &small_index());
+    let to = Tid { block: 2, off: 1 };
+    let link = Event::Link {
+        at: place(1),
+        list_at: place(2),
+        version: 1,
+        slot: 1,
+        to,
+    };
+    let join = Event::Join {
+        at: place(1),
+        version: 1,
+        id: row(2),
+    };
+    assert!(rt; fits(&link, GRAPH, 255, 1, &mut pages[1]));
+    assert!(rt; fits(&join, GRAPH, 255, 1, &mut pages[1]));
+    assert!(rt; fits(&Event::Hint { block: 2 }, GRAPH, 255, 0, &mut pages[0]));
+    let graph = graph_of(alloc, &pages)?;
+    assert!(rt; graph.hint == 2 && graph.entry == Some(place(1)) && graph.nodes.len() == 2);
+    let Some(node) = graph.nodes.get(place(1)) else {
+        panic!(rt; "no node stands at 1/1")
+    };
+    assert!(rt; node.ids.as_slice() == [row(1), row(2)].as_slice());
+    assert!(rt; node.slots.as_slice() == [None, Some(to), None, None].as_slice());
+    Ok(())
+}
+
+#[test]
+fn laws_are_called(_rt: HostRuntime) -> Result<(), Fail> {
+    law_standing();
+    law_hint();
+    law_entry();
+    law_link();
+    law_relist();
+    law_join();
+    law_drop();
+    law_mark();
+    Ok(())
+}
+
+#[test]
+fn fits_are_called(_rt: HostRuntime) -> Result<(), Fail> {
+    law_hint_fits();
+    law_entry_fits();
+    law_join_fits();
+    law_drop_fits();
+    law_link_fits();
+    law_relist_fits();
+    Ok(())
+}

@@ -1,5 +1,0 @@
-use Rattle.page_redo.proofs.MetaEffect.{entry_effect}
-use Rattle.page_redo.proofs.effects.law_entry.Goals as goal
-
-pub returns : goal.returns
-returns c = λ pages g to level has wrap number block page after all stands there is. entry_effect pages g all stands number block page after there to level has is

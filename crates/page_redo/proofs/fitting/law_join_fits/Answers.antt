@@ -1,5 +1,0 @@
-use Rattle.page_redo.proofs.EventFits.{join_fits}
-use Rattle.page_redo.proofs.fitting.law_join_fits.Goals as goal
-
-pub returns : goal.returns
-returns c = λ pages g at version id n all stands there few. join_fits pages g all stands at version id n there few

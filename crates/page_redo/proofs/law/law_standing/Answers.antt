@@ -1,9 +1,0 @@
-use Rattle.page_redo.proofs.SameGraph.{same_graph}
-use Rattle.page_redo.proofs.StandingLaws.{node_below}
-use Rattle.page_redo.proofs.law.law_standing.Goals as goal
-
-pub returns-clause-one_graph : goal.returns-clause-one_graph
-returns-clause-one_graph c = same_graph
-
-pub returns-clause-on_blocks : goal.returns-clause-on_blocks
-returns-clause-on_blocks c = node_below

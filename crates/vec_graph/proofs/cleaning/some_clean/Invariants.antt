@@ -1,6 +1,0 @@
-use Rattle.vec_graph.specs.Cleaning.{IsCleanAt}
-use Rattle.vec_graph.proofs.Positions.{NoneBefore}
-use Rattle.vec_graph.proofs.cleaning.some_clean.Given as goal
-
-abbrev pub invariant-loop-graph : goal.invariant-loop-graph
-invariant-loop-graph l = NoneBefore (λ g. IsCleanAt g l.at l.layer) l.states l.graph-index

@@ -1,7 +1,0 @@
-use Rattle.std.proofs.Common.{ℕ, ◌<◌}
-use Rattle.vec_graph.specs.Cleaning.{IsCleanAt}
-use Rattle.vec_graph.specs.Knowable.{IsSomewhere}
-use Rattle.vec_graph.proofs.cleaning.were_layers_clean.Given as goal
-
-abbrev pub invariant-loop-layer : goal.invariant-loop-layer
-invariant-loop-layer l = (layer : ℕ) → layer < l.layer → IsSomewhere (λ g. IsCleanAt g l.at layer) l.states
