@@ -4,8 +4,8 @@ ghost use Rattle.std.specs.Prelude.{take, replicate, false, slice_set};
 ghost use Rattle.bit_code.specs.Places.{packed, places, unpacked, Packed};
 ghost use Rattle.bit_code.specs.declared.fault.BitsFault.TheVariants.{Memory};
 
-use index_sizes::MOST_BITS;
 use crate::BitsFault;
+use index_sizes::MOST_BITS;
 use std::alloc::{AllocError, Global};
 use std::marker::Model;
 

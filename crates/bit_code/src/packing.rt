@@ -2,8 +2,8 @@
 ghost use Rattle.std.specs.Prelude.{◌≡◌, ◌+◌, ◌*◌, ◌-◌, ◌/◌, ◌%◌, ◌^◌, ◌≤◌, ◌<◌, ◌↔◌, IsTrue, ℕ, List, Bool, All, false, drop, length, replicate, take};
 ghost use Rattle.bit_code.specs.Places.{places, unpacked, packed, Packed};
 
-use index_sizes::MOST_BITS;
 use crate::Bits;
+use index_sizes::MOST_BITS;
 
 /// Whether these are the packed bytes of a value of `count` places: 1 to 64,000 of them, as many bytes as they need, and
 /// each unused bit of the last byte 0. Of the bytes it looks at the last one alone.

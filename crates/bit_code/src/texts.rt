@@ -3,8 +3,8 @@ ghost use Rattle.std.specs.Prelude.{◌≡◌, ◌<◌, ◌≤◌, ◌-◌, ◌+
 ghost use Rattle.bit_code.specs.Places.{places, Packs};
 ghost use Rattle.bit_code.specs.Texts.{IsBitText, IsFaultOf, first_bad, places_of_text};
 
-use index_sizes::MOST_BITS;
 use crate::{Bits, BitsFault};
+use index_sizes::MOST_BITS;
 use std::alloc::{AllocError, Global};
 
 /// Reads a bit value as the scripts and pgvector spell it: one character `0` or `1` for each place, 1 to 64,000 of them.

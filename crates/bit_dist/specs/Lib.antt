@@ -1,3 +1,4 @@
 pub mod Shared
 pub mod Distances
 pub mod Orders
+pub mod Hits

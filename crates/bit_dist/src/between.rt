@@ -3,9 +3,9 @@ ghost use Rattle.std.specs.Prelude.{◌≡◌, ◌≤◌, length};
 ghost use Rattle.bit_code.specs.Places.{both, ones};
 ghost use Rattle.bit_dist.specs.Distances.{hamming_of, jaccard_of, jaccard_num, jaccard_den, distance_of};
 
-use index_sizes::MOST_BITS;
 use crate::Dist;
 use bit_code::{Bits, count_both, count_ones, count_unequal};
+use index_sizes::MOST_BITS;
 use vec_names::Ops;
 
 /// The distance of two values of one length.

@@ -1,4 +1,4 @@
-//! The fields of a record of bytes, as an event's, a tuple's or a log's: each is read from the front of
+//! The fields of the index's records of bytes, events and tuples: each is read from the front of
 //! the bytes up to the first that can't be read, and put at the end of bytes. Numbers are little-endian.
 //!
 //! A reader gives a value and the bytes behind it, or a `Stop` that tells whether the field's value is not
@@ -18,7 +18,7 @@ pub use fields::{
 };
 pub use optional::{no_place, slot_of, slots};
 pub use packed::packed_places;
-pub use pieces::put;
+pub use pieces::{put, put_slots};
 pub use stop::{Cause, Halt, Stop};
 
 #[cfg(test)]

@@ -6,9 +6,9 @@ ghost use Rattle.bit_code.specs.Places.{unpacked, Packed};
 ghost use Rattle.byte_fields.specs.Reading.{packed_places};
 ghost use Rattle.byte_fields.specs.Answers.{Gives};
 
-use index_sizes::MOST_BITS;
 use crate::stop::Stop;
 use bit_code::is_packed;
+use index_sizes::MOST_BITS;
 
 /// The packed places of a value of `count` places, 1 to 64,000, no unused bit of the last byte being set.
 #[tactic(auto, unfolding(crate::specs::Reading::packed_places, crate::specs::Reading::field))]

@@ -85,8 +85,9 @@ fn packed_places_of_a_value(rt: HostRuntime) {
 fn slots_one_after_the_other(rt: HostRuntime) -> Result<(), Fail> {
     let alloc: Global = rt.alloc();
     let mut bytes = Vec::with_capacity(alloc, 13)?;
-    put(&mut bytes, &PLACE);
-    put(&mut bytes, &NONE);
+    put_slots(&mut bytes, &[Some(Tid { block: 3, off: 7 }), None]);
+    assert_eq!(rt; bytes.get(..6), Some(PLACE.as_slice()));
+    assert_eq!(rt; bytes.get(6..), Some(NONE.as_slice()));
     put(&mut bytes, &[9]);
     match slots(alloc, false, 2, &bytes) {
         Ok((places, rest)) => {

@@ -6,8 +6,8 @@ ghost use Rattle.page_bytes.specs.Decoding.{half_at, word_at, long_at, named_by}
 ghost use Rattle.page_bytes.specs.Spelling.{line_pointer};
 ghost use Rattle.page_bytes.specs.Splice.{spliced};
 
-use index_sizes::{PAGE_END, PAGE_SIZE};
 use crate::change::ItemChange;
+use index_sizes::{PAGE_END, PAGE_SIZE};
 
 /// How many bytes a page has.
 pub const SIZE: usize = PAGE_SIZE;

@@ -9,8 +9,8 @@ ghost use Rattle.page_bytes.specs.Dropping.{Gathers, Meets};
 ghost use Rattle.page_bytes.specs.Spelling.{zeros, line_pointer};
 ghost use Rattle.page_bytes.specs.Splice.{spliced};
 
-use index_sizes::{PAGE_END, PAGE_SIZE};
 use crate::bytes::{LOWER, UPPER, half, put, put_pointer, rounded, word};
+use index_sizes::{PAGE_END, PAGE_SIZE};
 
 /// Drops the items at rising offsets.
 pub fn drop_from(bytes: &mut [u8], gone: &[u16])

@@ -11,7 +11,6 @@ ghost use Rattle.page_bytes.specs.Spelling.{spelling};
 ghost use Rattle.page_bytes.specs.Splice.{with_item};
 ghost use Rattle.page_bytes.specs.declared.kind.PageKind.TheVariants.{IvfEntries};
 
-use index_sizes::{MOST_ITEM, PAGE_END, PAGE_SIZE};
 use crate::bytes::{
     KIND, LOWER, NEXT, SIZE, UPPER, change_part, half, long, named, put, put_pointer, rounded, word,
 };
@@ -20,6 +19,7 @@ use crate::drops::drop_from;
 use crate::fault::PageFault;
 use crate::kind::{PageKind, kind_of, word_of};
 use crate::reading::first_fault;
+use index_sizes::{MOST_ITEM, PAGE_END, PAGE_SIZE};
 use std::marker::Model;
 
 /// A page of 8,192 bytes, which it holds in place.

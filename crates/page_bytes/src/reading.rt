@@ -6,8 +6,8 @@ ghost use Rattle.page_bytes.specs.Decoding.{half_at};
 ghost use Rattle.page_bytes.specs.Format.Format.{Done};
 ghost use Rattle.page_bytes.specs.Format.{Format, page, ending, stack, pointers, fixed, begins_half, is_half, bad_place, first_bad, behind_upper, Passes, PassesPointers, FindsHalf, FindsPlace, FindsEnds, InHalf, Allows, Room, lens_at, room_of, least_upper, most_upper};
 
-use index_sizes::{PAGE_END, PAGE_SIZE};
 use crate::bytes::{NEXT, half, long, rounded, word};
+use index_sizes::{PAGE_END, PAGE_SIZE};
 
 /// Whether a half word is a multiple of a step, from low to high.
 #[tactic(auto, unfolding(crate::specs::Format::is_half))]

@@ -5,9 +5,9 @@ ghost use Rattle.byte_fields.specs.Reading.{packed_places};
 ghost use Rattle.byte_fields.specs.Answers.{Gives, GivesOr};
 ghost use Rattle.vec_event.specs.Reading.{bits, lists, two_bytes_above, rising, offsets};
 
-use index_sizes::{MOST_BITS, MOST_SLOTS};
 use bit_code::Bits;
 use byte_fields::{Halt, Stop, four_bytes_from, packed_places, slots, two_bytes_from};
+use index_sizes::{MOST_BITS, MOST_SLOTS};
 use std::alloc::Global;
 use vec_names::{Listed, Tid};
 

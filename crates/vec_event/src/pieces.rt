@@ -2,12 +2,10 @@
 
 ghost use Rattle.std.specs.Prelude.{◌≡◌, ◌<◌, ◌≤◌, ◌+◌, ◌^◌, ◌++◌, length, vec_len, vec_capacity};
 ghost use Rattle.std.specs.Int.{w16, w32, to_le_bytes};
-ghost use Rattle.std.specs.List.{flat_map};
-ghost use Rattle.vec_names.specs.Pointer.{tid_option_bytes};
 ghost use Rattle.vec_event.specs.Spelling.{bits_bytes, lists_bytes, offsets_bytes, RisesFrom};
 
 use bit_code::Bits;
-use byte_fields::put;
+use byte_fields::{put, put_slots};
 use vec_names::Tid;
 
 pub fn put_bits(into: &mut Vec<u8>, bits: &Bits)
@@ -21,17 +19,15 @@ pub fn put_bits(into: &mut Vec<u8>, bits: &Bits)
 }
 
 #[tactic(auto, using(crate::proofs::Lengths::lists_length))]
-pub fn put_lists(into: &mut Vec<u8>, places: &[Option<Tid>])
-    requires few { length places.now < 2 ^ 16 }
-    requires room { vec_len into.old + length (lists_bytes places.now) ≤ vec_capacity into.old }
-    ensures items { into.new.items ≡ into.old.items ++ lists_bytes places.now }
-    ensures len { vec_len into.new ≡ vec_len into.old + length (lists_bytes places.now) }
+pub fn put_lists(into: &mut Vec<u8>, slots: &[Option<Tid>])
+    requires few { length slots.now < 2 ^ 16 }
+    requires room { vec_len into.old + length (lists_bytes slots.now) ≤ vec_capacity into.old }
+    ensures items { into.new.items ≡ into.old.items ++ lists_bytes slots.now }
+    ensures len { vec_len into.new ≡ vec_len into.old + length (lists_bytes slots.now) }
     ensures capacity { vec_capacity into.old ≤ vec_capacity into.new }
 {
-    put(into, &(places.len() as u16).to_le_bytes());
-    'places: for place in places {
-        put(into, &Tid::spelled_option(*place));
-    }
+    put(into, &(slots.len() as u16).to_le_bytes());
+    put_slots(into, slots);
 }
 
 #[tactic(auto, using(crate::proofs::Lengths::offsets_length))]

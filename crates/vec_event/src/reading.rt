@@ -7,13 +7,13 @@ ghost use Rattle.vec_event.specs.Answers.{IsReading};
 ghost use Rattle.vec_event.specs.Spelling.{spelling, IsTyped, IsWritable};
 ghost use Rattle.vec_history.specs.declared.event.Event.{Event};
 
-use crate::changes::{
+use crate::fault::EventFault;
+use crate::reading_kinds::{
     drop_ids, entry, hint, ivf_add, ivf_drop, ivf_grow, ivf_hint, join, link, mark, put, relist,
 };
-use vec_history::Event;
-use crate::fault::EventFault;
 use byte_fields::{Cause, Halt, byte_from};
 use std::alloc::Global;
+use vec_history::Event;
 
 /// The event that the bytes begin with, and the number of its bytes. Other bytes may follow.
 ///

@@ -3,8 +3,8 @@
 ghost use Rattle.std.specs.Prelude.{◌≡◌, ◌≤◌, length};
 ghost use Rattle.vec_event.specs.Spelling.{spelling, bits_bytes, lists_bytes, offsets_bytes};
 
-use vec_history::Event;
 use bit_code::Bits;
+use vec_history::Event;
 use vec_names::Tid;
 
 /// The number of bytes of an event's spelling; 0 for a passing event, which has none.

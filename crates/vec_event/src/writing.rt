@@ -1,14 +1,15 @@
 //! Writing an event.
+#![tactic(auto, unfolding(crate::specs::Spelling::spelling))]
 
 ghost use Rattle.std.specs.Prelude.{◌≡◌, ◌≤◌, ◌<◌, ◌^◌, ◌+◌, ◌++◌, length, OnOk, OnErr, IfErr, IsOk, vec_len, vec_capacity, Some, Option};
 ghost use Rattle.vec_event.specs.Spelling.{spelling, bits_bytes, lists_bytes, offsets_bytes, RisesFrom, IsWritable};
 
-use vec_history::Event;
 use crate::fault::EventFault;
 use crate::pieces::{put_bits, put_lists, put_offsets};
 use crate::sizes::event_size;
 use bit_code::Bits;
 use byte_fields::put;
+use vec_history::Event;
 use vec_names::{HeapId, Tid};
 
 /// Appends the spelling of a lasting event with no value that is not allowed, as `read_event` reads it.
@@ -42,16 +43,16 @@ fn put_event(event: &Event, into: &mut Vec<u8>)
             id,
             bits,
             lists,
-        } => put_put(
-            into,
-            *at,
-            *list_at,
-            *version,
-            *level,
-            *id,
-            bits,
-            lists.as_slice(),
-        ),
+        } => {
+            let head = NodeHead {
+                at: *at,
+                list_at: *list_at,
+                version: *version,
+                level: *level,
+                id: *id,
+            };
+            put_node(into, head, bits, lists.as_slice())
+        }
         Event::Join { at, version, id } => put_join(into, *at, *version, *id),
         Event::Link {
             at,
@@ -88,31 +89,31 @@ fn put_event(event: &Event, into: &mut Vec<u8>)
     }
 }
 
-#[tactic(auto, unfolding(crate::specs::Spelling::spelling))]
-fn put_put(
-    into: &mut Vec<u8>,
+/// The fields of a Put before its value and its slots.
+#[derive(Clone, Copy)]
+struct NodeHead {
     at: Tid,
     list_at: Tid,
     version: u8,
     level: u8,
     id: HeapId,
-    bits: &Bits,
-    lists: &[Option<Tid>],
-)
+}
+
+fn put_node(into: &mut Vec<u8>, head: NodeHead, bits: &Bits, lists: &[Option<Tid>])
     requires few { length lists.now < 2 ^ 16 }
     requires room { vec_len into.old + (21 + length (bits_bytes bits.now) + length (lists_bytes lists.now)) ≤ vec_capacity into.old }
-    ensures { into.new.items ≡ into.old.items ++ spelling (Event.Put at list_at version level id bits.now lists.now) }
+    ensures { into.new.items ≡ into.old.items
+        ++ spelling (Event.Put head.at head.list_at head.version head.level head.id bits.now lists.now) }
 {
     put(into, &[1]);
-    put(into, &at.spelled());
-    put(into, &list_at.spelled());
-    put(into, &[version, level]);
-    put(into, &id.spelled());
+    put(into, &head.at.spelled());
+    put(into, &head.list_at.spelled());
+    put(into, &[head.version, head.level]);
+    put(into, &head.id.spelled());
     put_bits(into, bits);
     put_lists(into, lists);
 }
 
-#[tactic(auto, unfolding(crate::specs::Spelling::spelling))]
 fn put_join(into: &mut Vec<u8>, at: Tid, version: u8, id: HeapId)
     requires { vec_len into.old + 14 ≤ vec_capacity into.old }
     ensures { into.new.items ≡ into.old.items ++ spelling (Event.Join at version id) }
@@ -123,7 +124,6 @@ fn put_join(into: &mut Vec<u8>, at: Tid, version: u8, id: HeapId)
     put(into, &id.spelled());
 }
 
-#[tactic(auto, unfolding(crate::specs::Spelling::spelling))]
 fn put_link(into: &mut Vec<u8>, at: Tid, list_at: Tid, version: u8, slot: u16, to: Tid)
     requires { vec_len into.old + 22 ≤ vec_capacity into.old }
     ensures { into.new.items ≡ into.old.items ++ spelling (Event.Link at list_at version slot to) }
@@ -136,7 +136,6 @@ fn put_link(into: &mut Vec<u8>, at: Tid, list_at: Tid, version: u8, slot: u16, t
     put(into, &to.spelled());
 }
 
-#[tactic(auto, unfolding(crate::specs::Spelling::spelling))]
 fn put_relist(into: &mut Vec<u8>, at: Tid, list_at: Tid, version: u8, lists: &[Option<Tid>])
     requires few { length lists.now < 2 ^ 16 }
     requires room { vec_len into.old + (14 + length (lists_bytes lists.now)) ≤ vec_capacity into.old }
@@ -149,7 +148,6 @@ fn put_relist(into: &mut Vec<u8>, at: Tid, list_at: Tid, version: u8, lists: &[O
     put_lists(into, lists);
 }
 
-#[tactic(auto, unfolding(crate::specs::Spelling::spelling))]
 fn put_drop(into: &mut Vec<u8>, at: Tid, version: u8, gone: u16)
     requires { vec_len into.old + 10 ≤ vec_capacity into.old }
     ensures { into.new.items ≡ into.old.items ++ spelling (Event.Drop at version gone) }
@@ -160,7 +158,6 @@ fn put_drop(into: &mut Vec<u8>, at: Tid, version: u8, gone: u16)
     put(into, &gone.to_le_bytes());
 }
 
-#[tactic(auto, unfolding(crate::specs::Spelling::spelling))]
 fn put_mark(into: &mut Vec<u8>, at: Tid, list_at: Tid, version: u8)
     requires { vec_len into.old + 14 ≤ vec_capacity into.old }
     ensures { into.new.items ≡ into.old.items ++ spelling (Event.Mark at list_at version) }
@@ -171,7 +168,6 @@ fn put_mark(into: &mut Vec<u8>, at: Tid, list_at: Tid, version: u8)
     put(into, &[version]);
 }
 
-#[tactic(auto, unfolding(crate::specs::Spelling::spelling))]
 fn put_entry(into: &mut Vec<u8>, to: Option<Tid>, level: u8)
     requires { vec_len into.old + 8 ≤ vec_capacity into.old }
     ensures { into.new.items ≡ into.old.items ++ spelling (Event.Entry to level) }
@@ -181,7 +177,6 @@ fn put_entry(into: &mut Vec<u8>, to: Option<Tid>, level: u8)
     put(into, &[level]);
 }
 
-#[tactic(auto, unfolding(crate::specs::Spelling::spelling))]
 fn put_hint(into: &mut Vec<u8>, block: u32)
     requires { vec_len into.old + 5 ≤ vec_capacity into.old }
     ensures { into.new.items ≡ into.old.items ++ spelling (Event.Hint block) }
@@ -190,7 +185,6 @@ fn put_hint(into: &mut Vec<u8>, block: u32)
     put(into, &block.to_le_bytes());
 }
 
-#[tactic(auto, unfolding(crate::specs::Spelling::spelling))]
 fn put_ivf_add(into: &mut Vec<u8>, block: u32, id: HeapId, bits: &Bits)
     requires { vec_len into.old + (11 + length (bits_bytes bits.now)) ≤ vec_capacity into.old }
     ensures { into.new.items ≡ into.old.items ++ spelling (Event.IvfAdd block id bits.now) }
@@ -201,7 +195,6 @@ fn put_ivf_add(into: &mut Vec<u8>, block: u32, id: HeapId, bits: &Bits)
     put_bits(into, bits);
 }
 
-#[tactic(auto, unfolding(crate::specs::Spelling::spelling))]
 fn put_ivf_grow(into: &mut Vec<u8>, list: u32, last: u32, block: u32, id: HeapId, bits: &Bits)
     requires { vec_len into.old + (19 + length (bits_bytes bits.now)) ≤ vec_capacity into.old }
     ensures { into.new.items ≡ into.old.items ++ spelling (Event.IvfGrow list last block id bits.now) }
@@ -214,7 +207,6 @@ fn put_ivf_grow(into: &mut Vec<u8>, list: u32, last: u32, block: u32, id: HeapId
     put_bits(into, bits);
 }
 
-#[tactic(auto, unfolding(crate::specs::Spelling::spelling))]
 fn put_ivf_drop(into: &mut Vec<u8>, block: u32, gone: &[u16])
     requires rises { RisesFrom 0 gone.now }
     requires room { vec_len into.old + (5 + length (offsets_bytes gone.now)) ≤ vec_capacity into.old }
@@ -225,7 +217,6 @@ fn put_ivf_drop(into: &mut Vec<u8>, block: u32, gone: &[u16])
     put_offsets(into, gone);
 }
 
-#[tactic(auto, unfolding(crate::specs::Spelling::spelling))]
 fn put_ivf_hint(into: &mut Vec<u8>, list: u32, block: u32)
     requires { vec_len into.old + 9 ≤ vec_capacity into.old }
     ensures { into.new.items ≡ into.old.items ++ spelling (Event.IvfHint list block) }

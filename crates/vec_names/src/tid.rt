@@ -3,8 +3,8 @@
 ghost use Rattle.std.specs.Prelude.{◌≤◌, ◌<◌, ◌^◌};
 ghost use Rattle.index_sizes.specs.declared.limits.TheConstants.{LAST_BLOCK};
 
-use index_sizes::LAST_BLOCK;
 use crate::pointer;
+use index_sizes::LAST_BLOCK;
 
 /// The place of an item: the number of its block, from 0 to 32,767, and its offset on that page,
 /// from 1. Ordered by block, and then by offset.

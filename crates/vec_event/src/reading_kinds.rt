@@ -4,14 +4,14 @@ ghost use Rattle.std.specs.Prelude.{◌≡◌, length};
 ghost use Rattle.byte_fields.specs.Answers.{Gives, GivesOr};
 ghost use Rattle.vec_event.specs.Reading.{put, join, link, relist, drop_ids, mark, entry, hint, block, ivf_add, ivf_grow, ivf_drop, ivf_hint};
 
-use index_sizes::{LAST_BLOCK, MOST_BLOCKS};
 use crate::counted::{bits, lists, offsets};
-use vec_history::Event;
 use byte_fields::{
     Halt, Stop, byte_from, four_bytes_from, heap_id, level_beside, optional_place, place,
     two_bytes_from,
 };
+use index_sizes::{LAST_BLOCK, MOST_BLOCKS};
 use std::alloc::Global;
+use vec_history::Event;
 
 #[tactic(auto, unfolding(crate::specs::Reading::put))]
 pub fn put(alloc: Global, bytes: &[u8]) -> Result<(Event, &[u8]), Halt>
