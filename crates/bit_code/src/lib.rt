@@ -10,7 +10,7 @@ mod texts;
 pub use bits::Bits;
 pub use counts::{count_both, count_ones, count_unequal};
 pub use fault::BitsFault;
-pub use packing::{is_packed, packing_is_exact};
+pub use packing::{is_packed, law_packing};
 pub use texts::read_bits;
 
 #[cfg(test)]

@@ -23,7 +23,7 @@ pub fn is_packed(count: u32, bytes: &[u8]) -> bool
 /// The law of packing, which holds of any places; a call does nothing. Packed bytes are one for each eight places or part of
 /// eight, each a byte, with unused bits 0; they give the places back, so that two values of one count with the same bytes are
 /// one; and packed bytes are the bytes of the value that they give.
-pub fn packing_is_exact()
+pub fn law_packing()
     ensures long { (xs : List Bool) → length (packed xs) ≡ (length xs + 7) / 8 }
     ensures bytes { (xs : List Bool) → All (λ b. b < 256) (packed xs) }
     ensures kept { (xs : List Bool) → 1 ≤ length xs → length xs ≤ MOST_BITS → Packed (length xs) (packed xs) }

@@ -1,4 +1,5 @@
-//! Distances of bit values as exact fractions, ordered by value.
+//! Distances of bit values: Hamming and Jaccard as exact fractions, ordered by value. specs/Distances.antt says what they are,
+//! specs/Hits.antt what a search answers of a row and in which order; `Shared` and `Orders` are lemmas on which those stand.
 #![tactic(auto)]
 
 mod between;

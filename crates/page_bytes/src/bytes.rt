@@ -22,7 +22,7 @@ pub const NEXT: usize = PAGE_END as usize;
 pub const KIND: usize = 8190;
 
 #[tactic(auto, unfolding(crate::specs::Decoding::half_at))]
-pub fn half(bytes: &[u8], at: usize) -> u16
+pub fn u16_at(bytes: &[u8], at: usize) -> u16
     requires { at + 2 ≤ length bytes.now }
     ensures { result ≡ half_at bytes.now at }
 {
@@ -30,7 +30,7 @@ pub fn half(bytes: &[u8], at: usize) -> u16
 }
 
 #[tactic(auto, unfolding(crate::specs::Decoding::half_at, crate::specs::Decoding::word_at))]
-pub fn word(bytes: &[u8], at: usize) -> u32
+pub fn u32_at(bytes: &[u8], at: usize) -> u32
     requires { at + 4 ≤ length bytes.now }
     ensures { result ≡ word_at bytes.now at }
 {
@@ -38,11 +38,11 @@ pub fn word(bytes: &[u8], at: usize) -> u32
 }
 
 #[tactic(auto, unfolding(crate::specs::Decoding::half_at, crate::specs::Decoding::word_at, crate::specs::Decoding::long_at))]
-pub fn long(bytes: &[u8], at: usize) -> u64
+pub fn u64_at(bytes: &[u8], at: usize) -> u64
     requires { at + 8 ≤ length bytes.now }
     ensures { result ≡ long_at bytes.now at }
 {
-    u64::from(word(bytes, at)) + u64::from(word(bytes, at + 4)) * 0x1_0000_0000
+    u64::from(u32_at(bytes, at)) + u64::from(u32_at(bytes, at + 4)) * 0x1_0000_0000
 }
 
 /// Writes bytes over as many at a place.
@@ -56,7 +56,7 @@ pub fn put(bytes: &mut [u8], at: usize, part: &[u8])
 
 /// The item that a line pointer names.
 #[tactic(auto, unfolding(crate::specs::Decoding::named_by))]
-pub fn named(bytes: &[u8], pointer: u32) -> &[u8]
+pub fn item_named_by(bytes: &[u8], pointer: u32) -> &[u8]
     requires { pointer % 2 ^ 15 + pointer / 2 ^ 17 ≤ length bytes.now }
     ensures { result.now ≡ named_by bytes.now pointer }
 {
@@ -67,7 +67,7 @@ pub fn named(bytes: &[u8], pointer: u32) -> &[u8]
 
 /// The least multiple of 8 that is at least the length of an item.
 #[tactic(auto, unfolding(crate::specs::Content::round8))]
-pub fn rounded(len: usize) -> u16
+pub fn round_up_8(len: usize) -> u16
     requires { len ≤ PAGE_END }
     ensures { result ≡ round8 len }
 {

@@ -9,7 +9,7 @@ ghost use Rattle.page_bytes.specs.Dropping.{Gathers, Meets};
 ghost use Rattle.page_bytes.specs.Spelling.{zeros, line_pointer};
 ghost use Rattle.page_bytes.specs.Splice.{spliced};
 
-use crate::bytes::{LOWER, UPPER, half, put, put_pointer, rounded, word};
+use crate::bytes::{LOWER, UPPER, put, put_pointer, round_up_8, u16_at, u32_at};
 use index_sizes::{PAGE_END, PAGE_SIZE};
 
 /// Drops the items at rising offsets.
@@ -21,8 +21,8 @@ pub fn drop_from(bytes: &mut [u8], gone: &[u16])
     ensures { let p = content bytes.old in
         Spells bytes.new (record p { items = others gone.now 1 p.items }) }
 {
-    let lower = half(bytes, LOWER);
-    let upper = half(bytes, UPPER);
+    let lower = u16_at(bytes, LOWER);
+    let upper = u16_at(bytes, UPPER);
     let (at, top) = gather(bytes, gone, (lower - 24) / 4);
     clear(bytes, usize::from(at), usize::from(lower));
     clear(bytes, usize::from(upper), usize::from(top));
@@ -46,7 +46,7 @@ fn gather(bytes: &mut [u8], gone: &[u16], count: u16) -> (u16, u16)
         if meets(gone, next, i + 1) {
             next += 1;
         } else {
-            let pointer = word(bytes, 24 + 4 * usize::from(i));
+            let pointer = u32_at(bytes, 24 + 4 * usize::from(i));
             top = keep(bytes, at, top, pointer);
             at += 4;
         }
@@ -75,7 +75,7 @@ fn keep(bytes: &mut [u8], at: u16, top: u16, pointer: u32) -> u16
         bytes.new ≡ spliced (copy_within bytes.old place (place + round8 len) (top - round8 len)) at (line_pointer (top - round8 len) len) }
 {
     let len = pointer / 0x2_0000;
-    let room = rounded(len as usize);
+    let room = round_up_8(len as usize);
     let place = (pointer % 0x8000) as u16;
     let to = top - room;
     move_up(

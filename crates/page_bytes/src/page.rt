@@ -12,7 +12,8 @@ ghost use Rattle.page_bytes.specs.Splice.{with_item};
 ghost use Rattle.page_bytes.specs.declared.kind.PageKind.TheVariants.{IvfEntries};
 
 use crate::bytes::{
-    KIND, LOWER, NEXT, SIZE, UPPER, change_part, half, long, named, put, put_pointer, rounded, word,
+    KIND, LOWER, NEXT, SIZE, UPPER, change_part, item_named_by, put, put_pointer, round_up_8,
+    u16_at, u32_at, u64_at,
 };
 use crate::change::ItemChange;
 use crate::drops::drop_from;
@@ -74,7 +75,7 @@ impl Page {
     pub fn kind(&self) -> PageKind
         ensures { result ≡ self.now.kind }
     {
-        kind_of(half(&self.bytes, KIND))
+        kind_of(u16_at(&self.bytes, KIND))
     }
 
     /// The block of the next page of the same list. Only pages of kind `IvfEntries` have one.
@@ -82,7 +83,7 @@ impl Page {
     pub fn next(&self) -> Option<u32>
         ensures { result ≡ self.now.next }
     {
-        let next = word(&self.bytes, NEXT);
+        let next = u32_at(&self.bytes, NEXT);
         if next == u32::MAX { None } else { Some(next) }
     }
 
@@ -91,21 +92,21 @@ impl Page {
     pub fn number(&self) -> u64
         ensures { result ≡ self.now.number }
     {
-        long(&self.bytes, 0)
+        u64_at(&self.bytes, 0)
     }
 
     /// How many items the page has.
     pub fn count(&self) -> u16
         ensures { result ≡ length self.now.items }
     {
-        (half(&self.bytes, LOWER) - 24) / 4
+        (u16_at(&self.bytes, LOWER) - 24) / 4
     }
 
     /// The bytes that are left, `pd_upper` less `pd_lower`.
     pub fn free(&self) -> u16
         ensures { result ≡ free_of self.now }
     {
-        half(&self.bytes, UPPER) - half(&self.bytes, LOWER)
+        u16_at(&self.bytes, UPPER) - u16_at(&self.bytes, LOWER)
     }
 
     /// The item at an offset, which is 1 for the first. It is None exactly where the offset is 0 or past the last item.
@@ -115,8 +116,8 @@ impl Page {
         if off == 0 || off > self.count() {
             return None;
         }
-        let pointer = word(&self.bytes, 20 + 4 * usize::from(off));
-        Some(named(&self.bytes, pointer))
+        let pointer = u32_at(&self.bytes, 20 + 4 * usize::from(off));
+        Some(item_named_by(&self.bytes, pointer))
     }
 
     /// Adds an item of 1 to 8,156 bytes, and gives its offset. It is None, and the page stays, exactly where the
@@ -130,9 +131,9 @@ impl Page {
         ensures added { OnSome result
             (self.new ≡ record self.old { items = self.old.items ++ bytes.now ∷ [] }) }
     {
-        let lower = half(&self.bytes, LOWER);
-        let upper = half(&self.bytes, UPPER);
-        let room = rounded(bytes.len());
+        let lower = u16_at(&self.bytes, LOWER);
+        let upper = u16_at(&self.bytes, UPPER);
+        let room = round_up_8(bytes.len());
         if upper - lower < room + 4 {
             return None;
         }
@@ -145,7 +146,7 @@ impl Page {
         requires { IsSomeAnd (item_at self.old.items off) (λ x. length x ≡ length bytes.now) }
         ensures { self.new ≡ record self.old { items = slice_set self.old.items (off - 1) bytes.now } }
     {
-        let old = word(&self.bytes, 20 + 4 * usize::from(off));
+        let old = u32_at(&self.bytes, 20 + 4 * usize::from(off));
         put(&mut self.bytes, (old % 0x8000) as usize, bytes);
     }
 
@@ -154,7 +155,7 @@ impl Page {
         requires { IsSomeAnd (item_at self.old.items off) (λ x. C.fits change.now x) }
         ensures { IsSomeAnd (item_at self.old.items off) (λ x. (y : List ℕ) × C.makes change.now x y × (self.new ≡ record self.old { items = slice_set self.old.items (off - 1) y })) }
     {
-        let pointer = word(&self.bytes, 20 + 4 * usize::from(off));
+        let pointer = u32_at(&self.bytes, 20 + 4 * usize::from(off));
         change_part(
             &mut self.bytes,
             (pointer % 0x8000) as usize,

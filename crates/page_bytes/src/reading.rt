@@ -6,7 +6,7 @@ ghost use Rattle.page_bytes.specs.Decoding.{half_at};
 ghost use Rattle.page_bytes.specs.Format.Format.{Done};
 ghost use Rattle.page_bytes.specs.Format.{Format, page, ending, stack, pointers, fixed, begins_half, is_half, bad_place, first_bad, behind_upper, Passes, PassesPointers, FindsHalf, FindsPlace, FindsEnds, InHalf, Allows, Room, lens_at, room_of, least_upper, most_upper};
 
-use crate::bytes::{NEXT, half, long, rounded, word};
+use crate::bytes::{NEXT, round_up_8, u16_at, u32_at, u64_at};
 use index_sizes::{PAGE_END, PAGE_SIZE};
 
 /// Whether a half word is a multiple of a step, from low to high.
@@ -37,7 +37,7 @@ fn half_in(bytes: &[u8], at: u16, low: u16, high: u16, step: u16) -> Result<u16,
     requires whole { 256 % step ≡ 0 }
     ensures { FindsHalf low high step bytes.now at result }
 {
-    let number = half(bytes, usize::from(at));
+    let number = u16_at(bytes, usize::from(at));
     if is_in(low, high, step, number) {
         Ok(number)
     } else if may_begin(low, high, step, bytes[usize::from(at)]) {
@@ -72,7 +72,7 @@ fn past_zeros(bytes: &[u8], from: usize, to: usize) -> usize
     ensures stop { result < to → slice_index bytes.now result ≢ 0 }
 {
     let mut at = from;
-    'words: while to - at >= 8 && long(bytes, at) == 0 {
+    'words: while to - at >= 8 && u64_at(bytes, at) == 0 {
         at += 8;
     }
     'bytes: while at < to && bytes[at] == 0 {
@@ -140,8 +140,8 @@ fn stack_in(bytes: &[u8], count: u16, upper: u16) -> Result<(), u16>
     let mut left = count;
     'items: while left > 0 {
         left -= 1;
-        let len = word(bytes, 24 + 4 * usize::from(left)) / 0x2_0000;
-        let end = at + rounded(len as usize);
+        let len = u32_at(bytes, 24 + 4 * usize::from(left)) / 0x2_0000;
+        let end = at + round_up_8(len as usize);
         zeros_in(bytes, at + len as u16, end)?;
         at = end;
     }
@@ -160,7 +160,7 @@ fn ending_in(bytes: &[u8]) -> Result<(), u16>
     requires { length bytes.now ≡ PAGE_SIZE }
     ensures { Passes ending Done bytes.now PAGE_END PAGE_SIZE result }
 {
-    let next = word(bytes, NEXT);
+    let next = u32_at(bytes, NEXT);
     fixed_in(bytes, 8188, &[0, 0])?;
     half_in(bytes, 8190, least_kind(next), 4, 1)?;
     Ok(())

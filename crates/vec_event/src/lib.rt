@@ -12,7 +12,7 @@ mod sizes;
 mod writing;
 
 pub use fault::EventFault;
-pub use law::one_reading;
+pub use law::law_one_reading;
 pub use reading::read_event;
 pub use sizes::event_size;
 pub use vec_history::{Act, Event, Gate, Hold, Stage};

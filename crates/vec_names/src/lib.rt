@@ -14,7 +14,7 @@ pub use heap_id::HeapId;
 pub use level::{level_of, most_level};
 pub use list_values::Listed;
 pub use mapped::Mapped;
-pub use order::ordered_by_block;
+pub use order::law_ordered_by_block;
 pub use params::{Kind, Ops, Params};
 pub use tid::Tid;
 

@@ -6,7 +6,7 @@ ghost use Rattle.vec_names.specs.declared.tid.Tid.{Tid};
 ghost use Rattle.vec_names.specs.Order.{heap_id_cmp, tid_cmp};
 
 /// A law, and no work: `cmp` compares places and rows by block, and then by offset.
-pub fn ordered_by_block()
+pub fn law_ordered_by_block()
     ensures places { (a b : Tid) → ⟦<crate::tid::Tid as Ord>⟧.cmp a b ≡ tid_cmp a b }
     ensures rows { (a b : HeapId) → ⟦<crate::heap_id::HeapId as Ord>⟧.cmp a b ≡ heap_id_cmp a b }
 {}

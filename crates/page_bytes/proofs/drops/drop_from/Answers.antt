@@ -23,7 +23,7 @@ clear-requires-clause-order c =
     let bytes = c.args.bytes.now in
     let p = content bytes in
     let e = ends bytes p c.requires.page refl in
-    let o = in_order p c.args.gone.now c.gather-at.new.bytes ((c.half-lower.result - 24) / 4 + 1) c.gather-at.result.0 c.gather-at.result.1 c.half-lower.result c.half-upper.result c.gather-at.ensures e.room (c.half-lower.ensures ∙ e.lower) (omega (arith, e.upper)) in
+    let o = in_order p c.args.gone.now c.gather-at.new.bytes ((c.u16_at-lower.result - 24) / 4 + 1) c.gather-at.result.0 c.gather-at.result.1 c.u16_at-lower.result c.u16_at-upper.result c.gather-at.ensures e.room (c.u16_at-lower.ensures ∙ e.lower) (omega (arith, e.upper)) in
     omega (arith, o.front)
 
 pub clear-requires-2-clause-order : goal.clear-requires-2-clause-order
@@ -31,7 +31,7 @@ clear-requires-2-clause-order c =
     let bytes = c.args.bytes.now in
     let p = content bytes in
     let e = ends bytes p c.requires.page refl in
-    let o = in_order p c.args.gone.now c.gather-at.new.bytes ((c.half-lower.result - 24) / 4 + 1) c.gather-at.result.0 c.gather-at.result.1 c.half-lower.result c.half-upper.result c.gather-at.ensures e.room (c.half-lower.ensures ∙ e.lower) (omega (arith, e.upper)) in
+    let o = in_order p c.args.gone.now c.gather-at.new.bytes ((c.u16_at-lower.result - 24) / 4 + 1) c.gather-at.result.0 c.gather-at.result.1 c.u16_at-lower.result c.u16_at-upper.result c.gather-at.ensures e.room (c.u16_at-lower.ensures ∙ e.lower) (omega (arith, e.upper)) in
     omega (arith, o.back)
 
 pub returns : goal.returns
@@ -41,9 +41,9 @@ returns c =
     let e = ends bytes p c.requires.page refl in
     let at = c.gather-at.result.0 in
     let top = c.gather-at.result.1 in
-    let lower = c.half-lower.result in
-    let upper = c.half-upper.result in
+    let lower = c.u16_at-lower.result in
+    let upper = c.u16_at-upper.result in
     let g = c.gather-at.new.bytes in
-    let all = gathers_all p c.args.gone.now g ((lower - 24) / 4 + 1) at top lower upper c.gather-at.ensures c.requires.page.page (c.half-lower.ensures ∙ e.lower) (omega (arith, e.upper)) in
+    let all = gathers_all p c.args.gone.now g ((lower - 24) / 4 + 1) at top lower upper c.gather-at.ensures c.requires.page.page (c.u16_at-lower.ensures ∙ e.lower) (omega (arith, e.upper)) in
     let same : c.put-2.new.bytes ≡ spliced (spliced (spliced (spliced g at (zeros (lower - at))) upper (zeros (top - upper))) 12 (to_le_bytes w16 at)) 14 (to_le_bytes w16 top) = rw (c.put-2.ensures, c.put.ensures, c.clear-2.ensures, c.clear.ensures, c.to_le_bytes-2.ensures, c.to_le_bytes.ensures, c.from.ensures, c.from-2.ensures, c.from-3.ensures, c.from-4.ensures) refl in
     subst (λ (b : List ℕ). Spells b (record p { items = others c.args.gone.now 1 p.items })) (sym same) all

@@ -16,11 +16,11 @@ pub returns-in_err-half_in : goal.returns-in_err-half_in
 returns-in_err-half_in c =
     let p = err_from_is_err_and c.from_residual-in_err-half_in.result c.from_residual-in_err-half_in.ensures.1 in
     let least = c.least_kind.result in
-    let is = c.least_kind.ensures ∙ ap (λ (n : ℕ). cond (nat_eq n 0xFFFFFFFF) 1 4) c.word-next.ensures in
+    let is = c.least_kind.ensures ∙ ap (λ (n : ℕ). cond (nat_eq n 0xFFFFFFFF) 1 4) c.u32_at-next.ensures in
     rw (p.1, p.2) (ending_begins c.args.bytes.now least c.requires (λ k. (c.type_inv.bytes k).fits) is ∙ c.in_ok-fixed_in.ensures (half least 4 1 (λ _. Done)) ∙ c.in_err-half_in.ensures (λ _. Done))
 
 pub returns : goal.returns
 returns c =
     let least = c.least_kind.result in
-    let is = c.least_kind.ensures ∙ ap (λ (n : ℕ). cond (nat_eq n 0xFFFFFFFF) 1 4) c.word-next.ensures in
+    let is = c.least_kind.ensures ∙ ap (λ (n : ℕ). cond (nat_eq n 0xFFFFFFFF) 1 4) c.u32_at-next.ensures in
     ending_begins c.args.bytes.now least c.requires (λ k. (c.type_inv.bytes k).fits) is ∙ c.in_ok-fixed_in.ensures (half least 4 1 (λ _. Done)) ∙ c.in_ok-half_in.ensures.2 (λ _. Done)

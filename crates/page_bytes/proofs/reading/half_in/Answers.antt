@@ -8,14 +8,14 @@ use Rattle.page_bytes.proofs.reading.half_in.Goals as goal
 pub returns-then-is_in : goal.returns-then-is_in
 returns-then-is_in c =
     let bytes = c.args.bytes.now in
-    let number = c.half-number.ensures ∙ ap (half_at bytes) c.from.ensures in
-    let inside = is_half-true c.args.low c.args.high c.args.step c.half-number.result (sym c.is_in.ensures ∙ c.if-is_in.true) in
+    let number = c.u16_at-number.ensures ∙ ap (half_at bytes) c.from.ensures in
+    let inside = is_half-true c.args.low c.args.high c.args.step c.u16_at-number.result (sym c.is_in.ensures ∙ c.if-is_in.true) in
     (number, inside, λ next. half_found c.args.low c.args.high c.args.step next bytes c.args.at (steps_of c.args.step c.requires.whole) (omega (arith, c.requires.long)) (c.type_inv.bytes c.args.at).fits (subst (InHalf c.args.low c.args.high c.args.step) number inside) ∙ ap (λ (n : ℕ). bad_place (next n) bytes (c.args.at + 2)) (sym number))
 
 pub returns-then-may_begin : goal.returns-then-may_begin
 returns-then-may_begin c =
     let bytes = c.args.bytes.now in
-    let number = c.half-number.ensures ∙ ap (half_at bytes) c.from.ensures in
+    let number = c.u16_at-number.ensures ∙ ap (half_at bytes) c.from.ensures in
     let apart = ap (is_half c.args.low c.args.high c.args.step) (sym number) ∙ sym c.is_in.ensures ∙ c.if-is_in.false in
     let begun = ap (λ (i : ℕ). begins_half c.args.low c.args.high c.args.step (get_or bytes i 0)) (sym c.from-else-is_in.ensures) ∙ sym c.may_begin.ensures ∙ c.if-may_begin.true in
     λ next. half_bad_second c.args.low c.args.high c.args.step next bytes c.args.at (omega (arith, c.requires.long)) apart begun

@@ -35,7 +35,7 @@ invariant_of-self c =
     let bytes = c.self.inside.bytes in
     let x = c.args.bytes.now in
     let e = ends bytes (content bytes) c.self.invariant refl in
-    page_after _ _ _ (c.place_item.ensures ∙ ap (λ (r : ℕ). with_item bytes c.half-lower.result (c.half-upper.result - r) x) c.rounded-room.ensures) (with_item-spells bytes (content bytes) x c.half-lower.result c.half-upper.result c.self.invariant (item_from x c.requires.some (λ k. (c.type_inv.bytes k).fits)) (omega (arith, e.lower)) (omega (arith, e.upper)) (omega arith))
+    page_after _ _ _ (c.place_item.ensures ∙ ap (λ (r : ℕ). with_item bytes c.u16_at-lower.result (c.u16_at-upper.result - r) x) c.round_up_8-room.ensures) (with_item-spells bytes (content bytes) x c.u16_at-lower.result c.u16_at-upper.result c.self.invariant (item_from x c.requires.some (λ k. (c.type_inv.bytes k).fits)) (omega (arith, e.lower)) (omega (arith, e.upper)) (omega arith))
 
 pub returns-clause-refused : goal.returns-clause-refused
 returns-clause-refused c =
@@ -52,4 +52,4 @@ returns-clause-added c =
     let bytes = c.self.inside.bytes in
     let x = c.args.bytes.now in
     let e = ends bytes (content bytes) c.self.invariant refl in
-    content_after _ _ _ (c.place_item.ensures ∙ ap (λ (r : ℕ). with_item bytes c.half-lower.result (c.half-upper.result - r) x) c.rounded-room.ensures) (with_item-spells bytes (content bytes) x c.half-lower.result c.half-upper.result c.self.invariant (item_from x c.requires.some (λ k. (c.type_inv.bytes k).fits)) (omega (arith, e.lower)) (omega (arith, e.upper)) (omega arith)) ∙ ap (λ (p : Content). record p { items = p.items ++ x ∷ [] }) c.self.view_is
+    content_after _ _ _ (c.place_item.ensures ∙ ap (λ (r : ℕ). with_item bytes c.u16_at-lower.result (c.u16_at-upper.result - r) x) c.round_up_8-room.ensures) (with_item-spells bytes (content bytes) x c.u16_at-lower.result c.u16_at-upper.result c.self.invariant (item_from x c.requires.some (λ k. (c.type_inv.bytes k).fits)) (omega (arith, e.lower)) (omega (arith, e.upper)) (omega arith)) ∙ ap (λ (p : Content). record p { items = p.items ++ x ∷ [] }) c.self.view_is

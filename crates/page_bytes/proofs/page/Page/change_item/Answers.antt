@@ -12,15 +12,15 @@ change_part-requires-clause-within g c =
     let bytes = c.self.inside.bytes in
     let f = is_there (item_at c.args.self.now.items c.args.off) _ c.requires in
     let t = stands_there bytes c.args.off f.0 (ap (λ (p : Content). item_at p.items c.args.off) c.self.view_is ∙ f.1) in
-    let at = c.word-pointer.ensures ∙ ap (λ (off : ℕ). word_at bytes (20 + 4 * off)) c.from.ensures in
+    let at = c.u32_at-pointer.ensures ∙ ap (λ (off : ℕ). word_at bytes (20 + 4 * off)) c.from.ensures in
     omega (arith, at, item_within bytes c.args.off c.self.invariant t.low t.high, c.self.told)
 
 pub change_part-requires-clause-fits : goal.change_part-requires-clause-fits
 change_part-requires-clause-fits g c =
     let bytes = c.self.inside.bytes in
     let f = is_there (item_at c.args.self.now.items c.args.off) _ c.requires in
-    let at = c.word-pointer.ensures ∙ ap (λ (off : ℕ). word_at bytes (20 + 4 * off)) c.from.ensures in
-    let shown = part_shown bytes c.args.off f.0 c.word-pointer.result c.self.invariant (ap (λ (p : Content). item_at p.items c.args.off) c.self.view_is ∙ f.1) at in
+    let at = c.u32_at-pointer.ensures ∙ ap (λ (off : ℕ). word_at bytes (20 + 4 * off)) c.from.ensures in
+    let shown = part_shown bytes c.args.off f.0 c.u32_at-pointer.result c.self.invariant (ap (λ (p : Content). item_at p.items c.args.off) c.self.view_is ∙ f.1) at in
     subst (g.C.ItemChange.fits c.args.change.now) (sym shown) f.2
 
 pub invariant_of-self : goal.invariant_of-self
@@ -28,7 +28,7 @@ invariant_of-self g c =
     let bytes = c.self.inside.bytes in
     let f = is_there (item_at c.args.self.now.items c.args.off) _ c.requires in
     let t = stands_there bytes c.args.off f.0 (ap (λ (p : Content). item_at p.items c.args.off) c.self.view_is ∙ f.1) in
-    let at = c.word-pointer.ensures ∙ ap (λ (off : ℕ). word_at bytes (20 + 4 * off)) c.from.ensures in
+    let at = c.u32_at-pointer.ensures ∙ ap (λ (off : ℕ). word_at bytes (20 + 4 * off)) c.from.ensures in
     let p = item_points bytes c.args.off c.self.invariant t.low t.high in
     let y = c.change_part.ensures.0 in
     let long : length (get_or (content bytes).items (c.args.off - 1) []) ≡ length y = omega (arith, p.len, at, c.change_part.ensures.2) in
@@ -40,11 +40,11 @@ returns g c =
     let f = is_there (item_at c.args.self.now.items c.args.off) _ c.requires in
     let is = ap (λ (p : Content). item_at p.items c.args.off) c.self.view_is ∙ f.1 in
     let t = stands_there bytes c.args.off f.0 is in
-    let at = c.word-pointer.ensures ∙ ap (λ (off : ℕ). word_at bytes (20 + 4 * off)) c.from.ensures in
+    let at = c.u32_at-pointer.ensures ∙ ap (λ (off : ℕ). word_at bytes (20 + 4 * off)) c.from.ensures in
     let p = item_points bytes c.args.off c.self.invariant t.low t.high in
     let y = c.change_part.ensures.0 in
     let long : length (get_or (content bytes).items (c.args.off - 1) []) ≡ length y = omega (arith, p.len, at, c.change_part.ensures.2) in
-    let shown = part_shown bytes c.args.off f.0 c.word-pointer.result c.self.invariant is at in
+    let shown = part_shown bytes c.args.off f.0 c.u32_at-pointer.result c.self.invariant is at in
     let made = subst (λ (x : List ℕ). g.C.ItemChange.makes c.args.change.now x y) shown c.change_part.ensures.1 in
     some_and (item_at c.args.self.now.items c.args.off) _ f.0 f.1 (
       y,

@@ -17,7 +17,7 @@ put-requires c =
     let bytes = c.self.inside.bytes in
     let t = there (content bytes) c.args.self.now c.args.off (length c.args.bytes.now) c.self.view_is c.requires in
     let p = item_points bytes c.args.off c.self.invariant t.low t.high in
-    let at = c.word-old.ensures ∙ ap (λ (off : ℕ). word_at bytes (20 + 4 * off)) c.from.ensures in
+    let at = c.u32_at-old.ensures ∙ ap (λ (off : ℕ). word_at bytes (20 + 4 * off)) c.from.ensures in
     omega (arith, at, t.same, p.place, (rounds (length (get_or (content bytes).items (c.args.off - 1) []))).above, c.self.told)
 
 pub invariant_of-self : goal.invariant_of-self
@@ -26,7 +26,7 @@ invariant_of-self c =
     let x = c.args.bytes.now in
     let t = there (content bytes) c.args.self.now c.args.off (length x) c.self.view_is c.requires in
     let p = item_points bytes c.args.off c.self.invariant t.low t.high in
-    let at = c.word-old.ensures ∙ ap (λ (off : ℕ). word_at bytes (20 + 4 * off)) c.from.ensures in
+    let at = c.u32_at-old.ensures ∙ ap (λ (off : ℕ). word_at bytes (20 + 4 * off)) c.from.ensures in
     page_after _ _ _ (c.put.ensures ∙ ap (λ (w : ℕ). spliced bytes (w % 2 ^ 15) x) at) (overwritten_at bytes c.args.off x c.self.invariant t (λ k. (c.type_inv.bytes k).fits))
 
 pub returns : goal.returns
@@ -35,5 +35,5 @@ returns c =
     let x = c.args.bytes.now in
     let t = there (content bytes) c.args.self.now c.args.off (length x) c.self.view_is c.requires in
     let p = item_points bytes c.args.off c.self.invariant t.low t.high in
-    let at = c.word-old.ensures ∙ ap (λ (off : ℕ). word_at bytes (20 + 4 * off)) c.from.ensures in
+    let at = c.u32_at-old.ensures ∙ ap (λ (off : ℕ). word_at bytes (20 + 4 * off)) c.from.ensures in
     content_after _ _ _ (c.put.ensures ∙ ap (λ (w : ℕ). spliced bytes (w % 2 ^ 15) x) at) (overwritten_at bytes c.args.off x c.self.invariant t (λ k. (c.type_inv.bytes k).fits)) ∙ ap (λ (p : Content). record p { items = slice_set p.items (c.args.off - 1) x }) c.self.view_is

@@ -1,5 +1,5 @@
 use Rattle.bit_code.proofs.ExactPacking.{length-packed, packed-below, packed-Packed, unpacked-packed, packed-same, packed-take, below-at}
-use Rattle.bit_code.proofs.packing.packing_is_exact.Goals as goal
+use Rattle.bit_code.proofs.packing.law_packing.Goals as goal
 
 pub returns : goal.returns
 returns c = record {

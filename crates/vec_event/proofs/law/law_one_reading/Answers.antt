@@ -1,7 +1,7 @@
 use Rattle.std.proofs.lemmas.List.Elements.{recursion_from_All}
 use Rattle.vec_event.specs.Spelling.{IsTyped, IsWritable}
 use Rattle.vec_event.proofs.Readings.{one_event, one_list}
-use Rattle.vec_event.proofs.law.one_reading.Goals as goal
+use Rattle.vec_event.proofs.law.law_one_reading.Goals as goal
 
 pub returns-clause-event : goal.returns-clause-event
 returns-clause-event c = one_event
