@@ -29,7 +29,8 @@ pub fn law_packing()
     ensures kept { (xs : List Bool) → 1 ≤ length xs → length xs ≤ MOST_BITS → Packed (length xs) (packed xs) }
     ensures back { (xs : List Bool) → take (length xs) (unpacked (packed xs)) ≡ xs }
     ensures same { (xs ys : List Bool) → length xs ≡ length ys → packed xs ≡ packed ys → xs ≡ ys }
-    ensures whole { (count : ℕ) (bytes : List ℕ) → Packed count bytes → All (λ b. b < 256) bytes → packed (take count (unpacked bytes)) ≡ bytes }
+    ensures whole { (count : ℕ) (bytes : List ℕ) → Packed count bytes → All (λ b. b < 256) bytes
+        → packed (take count (unpacked bytes)) ≡ bytes }
 {}
 
 // Whether the bits after the last place are 0.

@@ -32,8 +32,10 @@ mul_swap a b c = grind arith
 
 dist_trans : (x y z : Dist) → dist_cmp x y ≡ Less → dist_cmp y z ≡ Less → dist_cmp x z ≡ Less
 dist_trans x y z p q =
-    let one : x.num * y.den * z.den < y.num * x.den * z.den = mul-lt-mul_of_pos_right (ranked (x.num * y.den) (y.num * x.den) Less (sym p)) z.positive in
-    let two : y.num * z.den * x.den < z.num * y.den * x.den = mul-lt-mul_of_pos_right (ranked (y.num * z.den) (z.num * y.den) Less (sym q)) x.positive in
+    let one : x.num * y.den * z.den < y.num * x.den * z.den =
+    mul-lt-mul_of_pos_right (ranked (x.num * y.den) (y.num * x.den) Less (sym p)) z.positive in
+    let two : y.num * z.den * x.den < z.num * y.den * x.den =
+    mul-lt-mul_of_pos_right (ranked (y.num * z.den) (z.num * y.den) Less (sym q)) x.positive in
     let all : x.num * z.den * y.den < z.num * x.den * y.den =
     omega (arith, mul_swap x.num y.den z.den, mul_swap y.num x.den z.den, mul_swap z.num y.den x.den) in
     cmp_less (x.num * z.den) (z.num * x.den) (lt_of_mul-lt-mul_right y.den all)
@@ -41,7 +43,8 @@ dist_trans x y z p q =
 dist_congr : (x y z : Dist) → dist_cmp x y ≡ Equal → dist_cmp x z ≡ dist_cmp y z
 dist_congr x y z p =
     let e : x.num * y.den ≡ y.num * x.den = ranked (x.num * y.den) (y.num * x.den) Equal (sym p) in
-    let left : x.num * z.den * y.den ≡ y.num * z.den * x.den = mul_swap x.num z.den y.den ∙ ap (λ n. n * z.den) e ∙ mul_swap y.num x.den z.den in
+    let left : x.num * z.den * y.den ≡ y.num * z.den * x.den =
+    mul_swap x.num z.den y.den ∙ ap (λ n. n * z.den) e ∙ mul_swap y.num x.den z.den in
     sym (cmp_scaled (x.num * z.den) (z.num * x.den) y.den y.positive)
     ∙ ap (λ n. nat_cmp n (z.num * x.den * y.den)) left
     ∙ ap (λ n. nat_cmp (y.num * z.den * x.den) n) (mul_swap z.num x.den y.den)

@@ -47,7 +47,8 @@ half low high step next =
 -- the line pointer of an item that lies right below a top, at a place from least to most
 unfoldable pub pointer : ℕ → ℕ → ℕ → (ℕ → ℕ → Format) → Format
 pointer least most top next =
-    half (least + 2 ^ 15) (most + 2 ^ 15) 8 (λ low. let place = low - 2 ^ 15 in half (2 * (top - place) - 14) (2 * (top - place)) 2 (λ high. next place (high / 2)))
+    half (least + 2 ^ 15) (most + 2 ^ 15) 8 (λ low.
+    let place = low - 2 ^ 15 in half (2 * (top - place) - 14) (2 * (top - place)) 2 (λ high. next place (high / 2)))
 
 -- ---- a page, from its end to its front
 
@@ -140,24 +141,28 @@ Passes format after bytes at end (Err bad) = bad_place format bytes at ≡ bad
 -- a half word, with what it says
 abbrev pub FindsHalf : ℕ → ℕ → ℕ → List ℕ → ℕ → Result ℕ ℕ → Type 0
 FindsHalf low high step bytes at (Ok n) =
-    (n ≡ half_at bytes at) × InHalf low high step n × ((next : ℕ → Format) → bad_place (half low high step next) bytes at ≡ bad_place (next n) bytes (at + 2))
+    (n ≡ half_at bytes at) × InHalf low high step n
+    × ((next : ℕ → Format) → bad_place (half low high step next) bytes at ≡ bad_place (next n) bytes (at + 2))
 FindsHalf low high step bytes at (Err bad) = (next : ℕ → Format) → bad_place (half low high step next) bytes at ≡ bad
 
 -- the place of an item, which a line pointer tells with the item's length
 abbrev pub FindsPlace : ℕ → ℕ → ℕ → List ℕ → ℕ → Result ℕ ℕ → Type 0
 FindsPlace least most top bytes at (Ok place) =
-    let len = word_at bytes at / 2 ^ 17 in InPointer least most top place len × ((next : ℕ → ℕ → Format) → bad_place (pointer least most top next) bytes at ≡ bad_place (next place len) bytes (at + 4))
+    let len = word_at bytes at / 2 ^ 17 in InPointer least most top place len
+    × ((next : ℕ → ℕ → Format) → bad_place (pointer least most top next) bytes at ≡ bad_place (next place len) bytes (at + 4))
 FindsPlace least most top bytes at (Err bad) = (next : ℕ → ℕ → Format) → bad_place (pointer least most top next) bytes at ≡ bad
 
 -- line pointers, after which the lengths are known that they tell, and so where the items end
 abbrev pub PassesPointers : ℕ → ℕ → List ℕ → Result (Unit {0}) ℕ → Type 0
 PassesPointers count upper bytes (Ok done) =
-    (upper + room_of (lens_at bytes count) ≡ PAGE_END) × ((gap : ℕ) → bad_place (pointers count gap upper PAGE_END []) bytes 24 ≡ bad_place (fixed (zeros gap) (stack (lens_at bytes count))) bytes (24 + 4 * count))
+    (upper + room_of (lens_at bytes count) ≡ PAGE_END)
+    × ((gap : ℕ) → bad_place (pointers count gap upper PAGE_END []) bytes 24 ≡ bad_place (fixed (zeros gap) (stack (lens_at bytes count))) bytes (24 + 4 * count))
 PassesPointers count upper bytes (Err bad) = (gap : ℕ) → bad_place (pointers count gap upper PAGE_END []) bytes 24 ≡ bad
 
 -- a header, with where the line pointers end and where the items begin
 abbrev pub FindsEnds : List ℕ → Result (ℕ × ℕ) ℕ → Type 0
 FindsEnds bytes (Ok ends) =
     let lower = ends.0 in
-    let upper = ends.1 in InHalf 24 2744 4 lower × InHalf (least_upper lower) (most_upper lower) 8 upper × (first_bad page bytes ≡ bad_place (pointers ((lower - 24) / 4) (upper - lower) upper PAGE_END []) bytes 24)
+    let upper = ends.1 in InHalf 24 2744 4 lower × InHalf (least_upper lower) (most_upper lower) 8 upper
+    × (first_bad page bytes ≡ bad_place (pointers ((lower - 24) / 4) (upper - lower) upper PAGE_END []) bytes 24)
 FindsEnds bytes (Err bad) = first_bad page bytes ≡ bad

@@ -12,7 +12,8 @@ zeros n = replicate n 0
 -- pd_lsn, pd_checksum, pd_flags, pd_lower, pd_upper, pd_special, pd_pagesize_version and pd_prune_xid
 unfoldable pub header : ℕ → ℕ → ℕ → List ℕ
 header number lower upper =
-    to_le_bytes w64 number ++ (to_le_bytes w16 0 ++ (to_le_bytes w16 0 ++ (to_le_bytes w16 lower ++ (to_le_bytes w16 upper ++ (to_le_bytes w16 PAGE_END ++ (to_le_bytes w16 0x2004 ++ to_le_bytes w32 0))))))
+    to_le_bytes w64 number ++ (to_le_bytes w16 0 ++ (to_le_bytes w16 0 ++ (to_le_bytes w16 lower
+    ++ (to_le_bytes w16 upper ++ (to_le_bytes w16 PAGE_END ++ (to_le_bytes w16 0x2004 ++ to_le_bytes w32 0))))))
 
 -- an item's place in bits 0 to 14, the flags 1 in bits 15 and 16, and its length in bits 17 to 31
 unfoldable pub line_pointer : ℕ → ℕ → List ℕ

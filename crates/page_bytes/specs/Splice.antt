@@ -10,4 +10,5 @@ spliced bytes at part = take at bytes ++ (part ++ drop (at + length part) bytes)
 -- the bytes with an item written at a place, its line pointer at lower, and the two ends in the header
 unfoldable pub with_item : List ℕ → ℕ → ℕ → List ℕ → List ℕ
 with_item bytes lower place item =
-    spliced (spliced (spliced (spliced bytes place item) lower (line_pointer place (length item))) 12 (to_le_bytes w16 (lower + 4))) 14 (to_le_bytes w16 place)
+    spliced (spliced (spliced (spliced bytes place item) lower (line_pointer place (length item)))
+    12 (to_le_bytes w16 (lower + 4))) 14 (to_le_bytes w16 place)

@@ -91,7 +91,8 @@ pub fn put_pointer(bytes: &mut [u8], at: usize, place: u16, len: u32)
 pub fn change_part<C: ItemChange>(bytes: &mut [u8], at: usize, len: usize, change: &C)
     requires within { at + len ≤ length bytes.old }
     requires fits { C.fits change.now (take len (drop at bytes.old)) }
-    ensures { (x : List ℕ) × C.makes change.now (take len (drop at bytes.old)) x × (length x ≡ len) × (bytes.new ≡ spliced bytes.old at x) × ((k : ℕ) → slice_index x k < 2 ^ 8) }
+    ensures { (x : List ℕ) × C.makes change.now (take len (drop at bytes.old)) x × (length x ≡ len)
+        × (bytes.new ≡ spliced bytes.old at x) × ((k : ℕ) → slice_index x k < 2 ^ 8) }
 {
     change.change(&mut bytes[at..at + len]);
 }

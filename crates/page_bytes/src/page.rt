@@ -153,7 +153,8 @@ impl Page {
     /// Changes an item that is there, where it stands.
     pub fn change_item<C: ItemChange>(&mut self, off: u16, change: &C)
         requires { IsSomeAnd (item_at self.old.items off) (λ x. C.fits change.now x) }
-        ensures { IsSomeAnd (item_at self.old.items off) (λ x. (y : List ℕ) × C.makes change.now x y × (self.new ≡ record self.old { items = slice_set self.old.items (off - 1) y })) }
+        ensures { IsSomeAnd (item_at self.old.items off) (λ x. (y : List ℕ) × C.makes change.now x y
+            × (self.new ≡ record self.old { items = slice_set self.old.items (off - 1) y })) }
     {
         let pointer = u32_at(&self.bytes, 20 + 4 * usize::from(off));
         change_part(

@@ -26,7 +26,8 @@ use vec_history::Event;
 /// or 0.
 pub fn read_event(alloc: Global, bytes: &[u8]) -> Result<(Event, usize), EventFault>
     // What is read is spelled so, by the bytes that are counted.
-    ensures spelled { IfOk result (λ x. IsWritable x.0 × IsTyped x.0 × (bytes.now ≡ spelling x.0 ++ drop x.1 bytes.now) × (x.1 ≡ length (spelling x.0))) }
+    ensures spelled { IfOk result (λ x. IsWritable x.0 × IsTyped x.0
+        × (bytes.now ≡ spelling x.0 ++ drop x.1 bytes.now) × (x.1 ≡ length (spelling x.0))) }
 
     // What is spelled so is read, whatever follows it, unless memory runs out.
     ensures read { (e : Event) (rest : List ℕ) → IsTyped e → IsWritable e → bytes.now ≡ spelling e ++ rest

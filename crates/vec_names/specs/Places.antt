@@ -11,8 +11,10 @@ use Rattle.vec_names.specs.declared.tid.Tid.{Tid}
 use Rattle.vec_names.specs.declared.heap_id.HeapId.{HeapId}
 
 -- the place with these numbers, where they are in range
-unfoldable pub tid_where : (block off : ℕ) (b c d : Bool) → nat_le block LAST_BLOCK ≡ b → nat_le 1 off ≡ c → nat_lt off (2 ^ 16) ≡ d → Option Tid
-tid_where block off true true true b c d = Some (record { block = block; off = off; within_blocks = leb-true _ _ b; counted_from_one = leb-true _ _ c; in_two_bytes = ltb-true _ _ d })
+unfoldable pub tid_where : (block off : ℕ) (b c d : Bool) → nat_le block LAST_BLOCK ≡ b → nat_le 1 off ≡ c → nat_lt off (2 ^ 16) ≡ d
+    → Option Tid
+tid_where block off true true true b c d =
+    Some (record { block = block; off = off; within_blocks = leb-true _ _ b; counted_from_one = leb-true _ _ c; in_two_bytes = ltb-true _ _ d })
 tid_where block off true true false b c d = None
 tid_where block off true false _ b c d = None
 tid_where block off false _ _ b c d = None
@@ -21,8 +23,10 @@ tid_where block off false _ _ b c d = None
 unfoldable pub tid_of : ℕ → ℕ → Option Tid
 tid_of block off = tid_where block off _ _ _ refl refl refl
 
-unfoldable pub heap_id_where : (block off : ℕ) (b c d : Bool) → nat_lt block 0xFFFFFFFF ≡ b → nat_le 1 off ≡ c → nat_lt off (2 ^ 16) ≡ d → Option HeapId
-heap_id_where block off true true true b c d = Some (record { block = block; off = off; within_blocks = ltb-true _ _ b; counted_from_one = leb-true _ _ c; in_two_bytes = ltb-true _ _ d })
+unfoldable pub heap_id_where : (block off : ℕ) (b c d : Bool) → nat_lt block 0xFFFFFFFF ≡ b → nat_le 1 off ≡ c → nat_lt off (2 ^ 16) ≡ d
+    → Option HeapId
+heap_id_where block off true true true b c d =
+    Some (record { block = block; off = off; within_blocks = ltb-true _ _ b; counted_from_one = leb-true _ _ c; in_two_bytes = ltb-true _ _ d })
 heap_id_where block off true true false b c d = None
 heap_id_where block off true false _ b c d = None
 heap_id_where block off false _ _ b c d = None
@@ -36,15 +40,31 @@ pub same_tid : (a b : Tid) → a.block ≡ b.block → a.off ≡ b.off → a ≡
 same_tid a b e f =
     let P : ℕ × ℕ → Type 0 = λ p. (p.0 ≤ LAST_BLOCK) × (1 ≤ p.1) × (p.1 < 2 ^ 16) in
     let numbers : ◌≡◌ {A = ℕ × ℕ} (a.block, a.off) (b.block, b.off) = λ i. (e i, f i) in
-    let whole : ◌≡◌ {A = (p : ℕ × ℕ) × P p} ((a.block, a.off), (a.within_blocks, a.counted_from_one, a.in_two_bytes)) ((b.block, b.off), (b.within_blocks, b.counted_from_one, b.in_two_bytes)) = Σ_prop_path (λ p. hlevel (props, le_prop)) numbers in
-    λ i. record { block = (whole i).0.0; off = (whole i).0.1; within_blocks = (whole i).1.0; counted_from_one = (whole i).1.1; in_two_bytes = (whole i).1.2 }
+    let whole : ◌≡◌ {A = (p : ℕ × ℕ) × P p} ((a.block, a.off), (a.within_blocks, a.counted_from_one, a.in_two_bytes))
+    ((b.block, b.off), (b.within_blocks, b.counted_from_one, b.in_two_bytes)) =
+    Σ_prop_path (λ p. hlevel (props, le_prop)) numbers in
+    λ i. record {
+      block = (whole i).0.0;
+      off = (whole i).0.1;
+      within_blocks = (whole i).1.0;
+      counted_from_one = (whole i).1.1;
+      in_two_bytes = (whole i).1.2;
+    }
 
 pub same_heap_id : (a b : HeapId) → a.block ≡ b.block → a.off ≡ b.off → a ≡ b
 same_heap_id a b e f =
     let P : ℕ × ℕ → Type 0 = λ p. (p.0 < 0xFFFFFFFF) × (1 ≤ p.1) × (p.1 < 2 ^ 16) in
     let numbers : ◌≡◌ {A = ℕ × ℕ} (a.block, a.off) (b.block, b.off) = λ i. (e i, f i) in
-    let whole : ◌≡◌ {A = (p : ℕ × ℕ) × P p} ((a.block, a.off), (a.within_blocks, a.counted_from_one, a.in_two_bytes)) ((b.block, b.off), (b.within_blocks, b.counted_from_one, b.in_two_bytes)) = Σ_prop_path (λ p. hlevel (props, le_prop)) numbers in
-    λ i. record { block = (whole i).0.0; off = (whole i).0.1; within_blocks = (whole i).1.0; counted_from_one = (whole i).1.1; in_two_bytes = (whole i).1.2 }
+    let whole : ◌≡◌ {A = (p : ℕ × ℕ) × P p} ((a.block, a.off), (a.within_blocks, a.counted_from_one, a.in_two_bytes))
+    ((b.block, b.off), (b.within_blocks, b.counted_from_one, b.in_two_bytes)) =
+    Σ_prop_path (λ p. hlevel (props, le_prop)) numbers in
+    λ i. record {
+      block = (whole i).0.0;
+      off = (whole i).0.1;
+      within_blocks = (whole i).1.0;
+      counted_from_one = (whole i).1.1;
+      in_two_bytes = (whole i).1.2;
+    }
 
 -- how a place and a row are stored, by which a proof tells two of them apart
 abbrev pub tid_code : Coded Tid
