@@ -86,8 +86,8 @@ fn slots_one_after_the_other(rt: HostRuntime) -> Result<(), Fail> {
     let alloc: Global = rt.alloc();
     let mut bytes = Vec::with_capacity(alloc, 13)?;
     put_slots(&mut bytes, &[Some(Tid { block: 3, off: 7 }), None]);
-    assert_eq!(rt; bytes.get(..6), Some(PLACE.as_slice()));
-    assert_eq!(rt; bytes.get(6..), Some(NONE.as_slice()));
+    let both = [0u8, 0, 3, 0, 7, 0, 255, 255, 255, 255, 0, 0];
+    assert_eq!(rt; bytes.as_slice(), both.as_slice());
     put(&mut bytes, &[9]);
     match slots(alloc, false, 2, &bytes) {
         Ok((places, rest)) => {
