@@ -14,13 +14,14 @@ use std::io;
 /// `Failed`, and the next one begins it anew; a kill at any point leaves what the next run takes.
 /// The file stays open and locked until this value is dropped.
 ///
-/// After a sync of an area that failed, each write and each sync of it is `Failed`: a system may
-/// drop what it could not write, and a later sync may succeed without it. For the same reason a new
-/// process may read what never reached the disk, until the system is started anew.
+/// After a sync of an area that failed, also one of those at its opening, each write and each sync
+/// of it is `Failed`: a system may drop what it could not write, and a later sync may succeed
+/// without it. For the same reason a new process may read what never reached the disk, until the
+/// system is started anew.
 ///
 /// A lock, or a sync of the folder, that the file system does not support counts as done (it answers
-/// EINVAL or EOPNOTSUPP): there nothing keeps two processes apart, or a new file's name after a
-/// crash. Mostly each call is one of the system's, at its own place; a first write at a place that
+/// EINVAL, ENOSYS or EOPNOTSUPP): there nothing keeps two processes apart, or a new file's name
+/// after a crash. Mostly each call is one of the system's, at its own place; a first write at a place that
 /// this value has not met asks for the length before it.
 #[derive(Drop)]
 pub struct FileDisks {

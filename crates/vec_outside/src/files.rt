@@ -1,10 +1,11 @@
 // The files of the three areas, over the calls of the system that they need: what is done once
 // for each area before its first call, and after a sync of it that failed.
-ghost use Rattle.std.specs.Prelude.{◌≡◌, ◌<◌, ◌↔◌, false, IsErr, IsTrue};
+ghost use Rattle.std.specs.Prelude.{◌≡◌, false, IsErr, IsTrue};
 ghost use Rattle.vec_outside.specs.Marks.{Stays, is_marked};
 ghost use Rattle.vec_outside.specs.declared.disks.Area.{Area};
 
 use crate::Area;
+use crate::areas::place_of;
 use crate::marks::{Marks, no_marks};
 use crate::system::System;
 use std::io;
@@ -27,16 +28,6 @@ pub struct Files<S> {
     reached: [u64; 3],
 }
 
-fn number_of(area: Area) -> usize
-    ensures { result < 3 }
-{
-    match area {
-        Area::Pages => 0,
-        Area::Log0 => 1,
-        Area::Log1 => 2,
-    }
-}
-
 // Why nothing more is written after a sync that failed.
 fn given_up() -> io::Error {
     io::Error::from(ErrorKind::Other)
@@ -57,7 +48,7 @@ impl<S: System> Files<S> {
 
     // What a sync of an area answered; one that failed is kept in mind.
     fn noted(&mut self, area: Area, answer: io::Result<()>) -> io::Result<()>
-        ensures same { IsErr result ↔ IsErr answer }
+        ensures same { result ≡ answer }
         ensures marked { IsErr result → IsTrue (is_marked self.new.failed area) }
         ensures stays { Stays self.old.failed self.new.failed }
     {
@@ -106,7 +97,7 @@ impl<S: System> Files<S> {
     {
         self.open(area)?;
         let len = self.system.len(area)?;
-        self.reached[number_of(area)] = len;
+        self.reached[place_of(area)] = len;
         Ok(len)
     }
 
@@ -127,13 +118,13 @@ impl<S: System> Files<S> {
             return Err(given_up());
         }
         self.open(area)?;
-        if at > self.reached[number_of(area)] && at > self.len(area)? {
+        if at > self.reached[place_of(area)] && at > self.len(area)? {
             return Err(io::Error::from(ErrorKind::UnexpectedEof));
         }
         self.system.write(area, at, bytes)?;
         let end = at.saturating_add(bytes.len() as u64);
-        let reached = self.reached[number_of(area)];
-        self.reached[number_of(area)] = reached.max(end);
+        let reached = self.reached[place_of(area)];
+        self.reached[place_of(area)] = reached.max(end);
         Ok(())
     }
 

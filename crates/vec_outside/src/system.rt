@@ -1,6 +1,7 @@
 // The calls of the system that files need, one for each, so that tests can let each of them fail.
 
 use crate::Area;
+use crate::areas::place_of;
 use std::fs::{File, OpenOptions, TryLockError};
 use std::io;
 use std::io::ErrorKind;
@@ -62,8 +63,6 @@ fn is_unsupported(kind: ErrorKind) -> bool {
 }
 
 impl Host {
-    ghost use Rattle.std.specs.Prelude.{◌<◌};
-
     /// No file is open, which is all that there is to say: of files nothing is told.
     pub fn new(rt: &HostRuntime) -> Host {
         Host {
@@ -72,18 +71,8 @@ impl Host {
         }
     }
 
-    fn number_of(area: Area) -> usize
-        ensures { result < 3 }
-    {
-        match area {
-            Area::Pages => 0,
-            Area::Log0 => 1,
-            Area::Log1 => 2,
-        }
-    }
-
     fn file(&self, area: Area) -> io::Result<&File> {
-        match &self.files[Host::number_of(area)] {
+        match &self.files[place_of(area)] {
             Some(file) => Ok(file),
             None => Err(io::Error::from(ErrorKind::NotFound)),
         }
@@ -104,7 +93,7 @@ impl System for Host {
         } else {
             file
         };
-        self.files[Host::number_of(area)] = Some(file);
+        self.files[place_of(area)] = Some(file);
         Ok(())
     }
 

@@ -2,7 +2,7 @@
 use Rattle.std.proofs.Common.{◌≡◌, refl, sym, ap, ap₂, ◌∙◌, ⊎_elim, inl, inr, subst, ℕ, zero, suc, ◌+◌, ◌-◌, ◌^◌, ◌<◌, ◌≤◌, List, [], ◌∷◌, ◌++◌, length, get_or, take, drop, map, arith, append_assoc, length-append}
 use Rattle.std.specs.Prelude.{Bool, Option, Some, None, IfSome, Result, Ok, Err, IfOk, IfErr, MatchResult, Vec}
 use Rattle.std.specs.List.{AllZip}
-use Rattle.std.proofs.lemmas.List.{append-nil, take_at, take-append-le, take-append-drop, get_or-take, length-take}
+use Rattle.std.proofs.lemmas.List.{append-nil, take_at, take-append-le, take-append-drop, get_or-take, length-take, take-take}
 use Rattle.std.proofs.lemmas.Bool.{cases_lt}
 use Rattle.std.specs.Io.KnownBytes.{Consumes, IsAtEnd}
 use Rattle.std.specs.declared.alloc.Global.{Global}
@@ -339,3 +339,30 @@ no_line_outside bytes commands k script (inr long) = let few = script.few in let
 
 pub source_not_refused : (left : Option (List ℕ)) (input : List ℕ) (commands : List Command) (k : ℕ) → left ≡ Some input → IsScript input commands → IfSome left (λ bytes. IsFirstOutside bytes k) → ⊥
 source_not_refused left input commands k told script refused = no_line_outside input commands k script (subst (λ (o : Option (List ℕ)). IfSome o (λ bytes. IsFirstOutside bytes k)) told refused)
+
+-- ---- at most one line is the first outside
+
+-- texts that break at a place are of the form before it, and at no earlier place do they break
+not_before : (texts : List (List ℕ)) (j k : ℕ) → BreaksAt texts j → BreaksAt texts k → j < k → ⊥
+not_before texts j k first later less =
+    let short : j ≤ k - 1 = omega (arith, less) in
+    first.broken (take j later.lines) (subst (λ (ts : List (List ℕ)). IsForm ts (take j later.lines)) (take-take j (k - 1) texts short) (form_front j (take (k - 1) texts) later.lines later.before))
+
+one_break : (texts : List (List ℕ)) (j k : ℕ) → BreaksAt texts j → BreaksAt texts k → j ≡ k
+one_break texts j k a b = ⊎_elim (λ less. absurd (not_before texts j k a b less)) (λ more. ⊎_elim (λ less. absurd (not_before texts k j b a less)) (λ other. omega (arith, more, other)) (cases_lt k j)) (cases_lt j k)
+
+-- texts of the form do not break
+no_break : (texts : List (List ℕ)) (k : ℕ) (lines : List (Option Command)) → IsForm texts lines → BreaksAt texts k → ⊥
+no_break texts k lines form at = at.broken (take k lines) (form_front k texts lines form)
+
+one_break_by : (texts : List (List ℕ)) (j k : ℕ) → BreaksBy texts j → BreaksBy texts k → j ≡ k
+one_break_by texts j k (inl a) (inl b) = one_break texts j k a b
+one_break_by texts j k (inl a) (inr b) = absurd (no_break texts j b.1.0 b.1.1 a)
+one_break_by texts j k (inr a) (inl b) = absurd (no_break texts k a.1.0 a.1.1 b)
+one_break_by texts j k (inr a) (inr b) = a.0 ∙ sym b.0
+
+pub one_outside : (bytes : List ℕ) (a b : ℕ) → IsFirstOutside bytes a → IsFirstOutside bytes b → a ≡ b
+one_outside bytes a b (inl short) (inl other) = one_break (lines_of bytes) a b short.1 other.1
+one_outside bytes a b (inl short) (inr long) = let few = short.0 in let many = long.0 in absurd (omega (arith, few, many))
+one_outside bytes a b (inr long) (inl short) = let few = short.0 in let many = long.0 in absurd (omega (arith, few, many))
+one_outside bytes a b (inr long) (inr other) = one_break_by (lines_of (closed_part (take (2 ^ 28) bytes))) a b long.1 other.1

@@ -12,3 +12,8 @@ pub fn one_reading()
 pub fn apart()
     ensures { (bytes : List ℕ) (commands : List Command) (line : ℕ) → IsScript bytes commands → ¬ IsFirstOutside bytes line }
 {}
+
+/// At most one line is the first outside the form.
+pub fn one_refusal()
+    ensures { (bytes : List ℕ) (a b : ℕ) → IsFirstOutside bytes a → IsFirstOutside bytes b → a ≡ b }
+{}

@@ -2,7 +2,7 @@
 ghost use Rattle.std.specs.Prelude.{ℕ, ◌≡◌, ◌≢◌, ◌⊎◌, ◌+◌, ◌^◌, ◌≤◌, ◌↔◌, List, IsTrue, MatchOption, Some};
 ghost use Rattle.vec_outside.specs.Causes.{Rose};
 ghost use Rattle.vec_run.specs.Exact.{TakesAtMost};
-ghost use Rattle.vec_run.specs.Grammar.{IsScript};
+ghost use Rattle.vec_run.specs.Grammar.{IsFirstOutside, IsScript};
 ghost use Rattle.vec_run.specs.Verbs.{IsDone, IsRefusedAt, IsVerb, UsesNoDisk, WritesFront};
 ghost use Rattle.vec_run.specs.declared.command.Command.{Command};
 ghost use Rattle.vec_run.specs.declared.top.Verb.{Verb};
@@ -75,10 +75,13 @@ pub fn run_alone<R: Threads + Sync, S: Source, K: Sink, D: Disks>(
     ensures words { (result.status ≡ 2) ↔ ((verb : Verb) → ¬ IsVerb words.now verb) }
     ensures words_read { result.status ≢ 2 → (verb : Verb) × IsVerb words.now verb }
 
-    // 3 comes where a line is outside the form, and the line is the first such. No script has one: `apart`.
+    // 3 comes exactly where a line is outside the form, unless memory is wanting or a read fails, and the line is the first
+    // such. No script has one: `apart`.
     ensures line { (verb : Verb) → IsVerb words.now verb → result.status ≡ 3
         → IsRefusedAt verb (S.left source.old) result.line }
     ensures no_line { result.status ≢ 3 → result.line ≡ 0 }
+    ensures refused { IsVerb words.now Exact → (input : List ℕ) (line : ℕ) → S.left source.old ≡ Some input → IsFirstOutside input line
+        → ¬ Rose (S.count source.old) (S.count source.new) → (result.status ≡ 3) ⊎ (result.status ≡ 1) }
 
     // 4 comes only where a read failed, and 5 only where a write did, after a front of what the verb writes.
     ensures read { result.status ≡ 4 → Rose (S.count source.old) (S.count source.new) }
