@@ -67,6 +67,11 @@ pub synced_only : (area : Area) (now : List ℕ) (calls : List Call) (bytes : Li
 synced_only area now calls bytes (inl is) = is
 synced_only area now calls bytes (inr (left, leaves, makes)) = absurd (subst (λ same. MatchBool same ⊥ (bytes ≡ left)) (same_itself area) makes)
 
+-- what another area might have been, it still may be
+pub synced_others : (synced area : Area) (now : List ℕ) (calls : List Call) (bytes : List ℕ) → area ≢ synced → Leaves area now calls bytes → Leaves area now (Synced synced ∷ calls) bytes
+synced_others synced area now calls bytes other leaves =
+    inr (bytes, leaves, subst (λ (same : Bool). MatchBool same ⊥ (bytes ≡ bytes)) (sym (same_other synced area other)) refl)
+
 pub kept_sync : (area : Area) (now : Image) (calls : List Call) → IsKept (disk_of now calls) (disk_of now (Synced area ∷ calls))
 kept_sync area now calls = record { seen = λ other. refl; leaves = λ other bytes left. synced_leaves area other (now other) calls bytes left }
 

@@ -4,6 +4,7 @@ pub mod Crash
 pub mod Disk
 pub mod FileDisk
 pub mod FileStream
+pub mod Marks
 pub mod MemDisk
 pub mod MemDisks
 pub mod MemStream

@@ -1,8 +1,8 @@
 // Three areas of bytes in memory, and a write in place.
-ghost use Rattle.std.specs.Prelude.{◌≡◌, ◌≢◌, ◌≤◌, ℕ, length, take, drop, vec_len, IfOk, OnOk, OnErr};
+ghost use Rattle.std.specs.Prelude.{◌≡◌, ◌≢◌, ◌≤◌, ◌<◌, ℕ, length, take, drop, vec_len, IfOk, OnOk, OnErr};
 ghost use Rattle.std.specs.Bool.{OnTrue, OnFalse};
 ghost use Rattle.vec_outside.specs.declared.disks.Area.{Area};
-ghost use Rattle.vec_outside.specs.Areas.{bytes_of, is_same as same_area};
+ghost use Rattle.vec_outside.specs.Areas.{bytes_of, is_same as same_area, place_of as area_place};
 ghost use Rattle.vec_outside.specs.Disk.{IsTorn, spliced};
 
 use crate::Area;
@@ -42,6 +42,18 @@ pub fn replaced(alloc: Global, old: &[u8], at: usize, len: usize) -> Result<Vec<
     let end = at + n;
     let was = old[at..end].to_vec(alloc)?;
     Ok(was)
+}
+
+/// The place of an area among the three, from 0.
+pub fn place_of(area: Area) -> usize
+    ensures place { result ≡ area_place area }
+    ensures within { result < 3 }
+{
+    match area {
+        Area::Pages => 0,
+        Area::Log0 => 1,
+        Area::Log1 => 2,
+    }
 }
 
 // Whether two areas are one.

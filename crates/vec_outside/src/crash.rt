@@ -18,12 +18,13 @@ pub enum Choice {
     Kept,
     /// What the last syncs left.
     Lost,
-    /// Of each write since then all, nothing, or some of its bytes and of its length, as drawn from
-    /// this seed. A write that failed is among them.
+    /// Of each write since then all, nothing, or a part of its length, in which each byte is the new
+    /// one, the one that stood there, zero or any other, as drawn from this seed. A write that
+    /// failed is among them.
     Mixed(u64),
 }
 
-/// Where the draws of a choice begin.
+/// Where the draws of a choice begin. It promises nothing: any draws give one of the images.
 pub fn seed_of(choice: Choice) -> u64 {
     match choice {
         Choice::Mixed(seed) => seed,
@@ -129,7 +130,17 @@ fn go_back(alloc: Global, line: &Timeline, area: Area) -> Result<Back, AllocErro
     Ok(Back { bytes, pieces })
 }
 
-// Some of a piece, to a drawn length: each of its bytes, or the one that stood there.
+// What is left of a byte whose write was torn: what stood there, the new one, zero, or any other.
+fn torn_byte(stood: u8, new: u8, draws: &mut Draws) -> u8 {
+    match draws.up_to(3) {
+        0 => stood,
+        1 => new,
+        2 => 0,
+        _ => draws.up_to(255) as u8,
+    }
+}
+
+// A piece that was torn at a drawn length.
 fn torn_piece(
     alloc: Global,
     stood: &[u8],
@@ -142,12 +153,7 @@ fn torn_piece(
     let mut torn = Vec::new(alloc);
     for i in 0..reach {
         let before = if i < stood.len() { stood[i] } else { 0 };
-        let byte = if draws.up_to(1) == 0 {
-            before
-        } else {
-            piece[i]
-        };
-        torn.push(byte)?;
+        torn.push(torn_byte(before, piece[i], draws))?;
     }
     Ok(torn)
 }

@@ -8,6 +8,7 @@ pub struct Draws {
 }
 
 impl Draws {
+    /// It promises nothing: what is drawn is free, and only its bound is used.
     pub fn from_seed(seed: u64) -> Draws {
         Draws { state: seed }
     }

@@ -1,173 +1,151 @@
-// The files of the three areas, in the current folder.
-ghost use Rattle.std.specs.Prelude.{◌<◌};
+// The files of the three areas, over the calls of the system that they need: what is done once
+// for each area before its first call, and after a sync of it that failed.
+ghost use Rattle.std.specs.Prelude.{◌≡◌, false, IsErr, IsTrue};
+ghost use Rattle.vec_outside.specs.Marks.{Stays, is_marked};
+ghost use Rattle.vec_outside.specs.declared.disks.Area.{Area};
 
 use crate::Area;
-use std::fs::{File, OpenOptions};
+use crate::areas::place_of;
+use crate::marks::{Marks, no_marks};
+use crate::system::System;
+use std::io;
 use std::io::ErrorKind;
-use std::os::fd::AsRawFd;
-use std::os::unix::fs::FileExt;
-use std::{fs, io};
 
-/// How many bytes a log area has when it is made, all of them zero.
+// The fewest bytes of a log area. A shorter one is filled with zeros.
 const BLANK: usize = 40;
 
-// An open file, and a length that it has reached.
+/// The files of the three areas. The first call of an area opens its file, locks it, fills a log
+/// that is too short, and makes the file's name durable. Where that fails, the next call begins it
+/// anew.
 #[derive(Drop)]
-struct Reached {
-    file: File,
-    len: u64,
+pub struct Files<S> {
+    system: S,
+    /// The areas of which all that was done.
+    ready: Marks,
+    /// The areas of which a sync failed: what is written since then may never reach the disk.
+    failed: Marks,
+    /// A length that each file has reached.
+    reached: [u64; 3],
 }
 
-/// The file of each area, once it is open.
-#[derive(Drop)]
-pub struct OpenFiles {
-    open: [Option<Reached>; 3],
+// Why nothing more is written after a sync that failed.
+fn given_up() -> io::Error {
+    io::Error::from(ErrorKind::Other)
 }
 
-fn number_of(area: Area) -> usize
-    ensures { result < 3 }
-{
-    match area {
-        Area::Pages => 0,
-        Area::Log0 => 1,
-        Area::Log1 => 2,
-    }
-}
-
-fn name_of(area: Area) -> &'static str {
-    match area {
-        Area::Pages => "vec_pages.dat",
-        Area::Log0 => "vec_log0.dat",
-        Area::Log1 => "vec_log1.dat",
-    }
-}
-
-// Gives a new file what its area begins with, and makes both the file and its name in the folder
-// durable.
-fn begin(rt: &HostRuntime, area: Area, file: &File) -> io::Result<()> {
-    if area != Area::Pages {
-        file.write_all_at(&[0; BLANK], 0)?;
-    }
-    file.sync_all()?;
-    let folder = File::open(rt, ".")?;
-    folder.sync_all()
-}
-
-// Makes the file of an area. One that can't be made whole is taken away again, so that the next
-// call makes it anew.
-fn make(rt: &HostRuntime, area: Area) -> io::Result<File> {
-    let file = File::create_new(rt, name_of(area))?;
-    match begin(rt, area, &file) {
-        Ok(()) => Ok(file),
-        Err(error) => {
-            let _ = fs::remove_file(rt, name_of(area));
-            Err(error)
+impl<S: System> Files<S> {
+    /// Touches no file.
+    pub fn new(system: S) -> Files<S>
+        ensures { (area : Area) → is_marked result.failed area ≡ false }
+    {
+        Files {
+            system,
+            ready: no_marks(),
+            failed: no_marks(),
+            reached: [0; 3],
         }
     }
-}
 
-// Opens the file of an area, and makes it where there is none.
-fn open(rt: &HostRuntime, area: Area) -> io::Result<File> {
-    let found = OpenOptions::new()
-        .read(true)
-        .write(true)
-        .open(rt, name_of(area));
-    let file = match found {
-        Ok(file) => file,
-        Err(error) if error.kind() == ErrorKind::NotFound => make(rt, area)?,
-        Err(error) => return Err(error),
-    };
-    // Where a standard stream was closed, a file may get its number, and what is meant for the
-    // stream.
-    if file.as_raw_fd() <= 2 {
-        return file.try_clone();
-    }
-    Ok(file)
-}
-
-// What is answered of an area without an open file.
-fn missing() -> io::Error {
-    io::Error::from(ErrorKind::NotFound)
-}
-
-impl Reached {
-    fn len(&mut self) -> io::Result<u64> {
-        self.len = self.file.metadata()?.len();
-        Ok(self.len)
-    }
-
-    // Writes all of the bytes, at most at the end of the file: never behind a hole.
-    fn write_at(&mut self, at: u64, bytes: &[u8]) -> io::Result<()> {
-        if at > self.len && at > self.len()? {
-            return Err(io::Error::from(ErrorKind::UnexpectedEof));
+    // What a sync of an area answered; one that failed is kept in mind.
+    fn noted(&mut self, area: Area, answer: io::Result<()>) -> io::Result<()>
+        ensures same { result ≡ answer }
+        ensures marked { IsErr result → IsTrue (is_marked self.new.failed area) }
+        ensures stays { Stays self.old.failed self.new.failed }
+    {
+        if answer.is_err() {
+            self.failed.mark(area);
         }
-        self.file.write_all_at(bytes, at)?;
-        self.len = self.len.max(at.saturating_add(bytes.len() as u64));
-        Ok(())
+        answer
     }
-}
 
-impl OpenFiles {
-    pub fn new() -> OpenFiles {
-        OpenFiles {
-            open: [None, None, None],
+    // Fills a log that is shorter than 40 bytes with zeros.
+    fn fill(&mut self, area: Area) -> io::Result<()>
+        ensures { Stays self.old.failed self.new.failed }
+    {
+        let len = self.system.len(area)?;
+        if len >= BLANK as u64 {
+            return Ok(());
         }
+        let zeros = [0; BLANK];
+        self.system.write(area, len, &zeros[len as usize..])?;
+        let answer = self.system.sync(area);
+        self.noted(area, answer)
     }
 
     // Opens the file of an area, where that was not done yet.
-    fn ready(&mut self, rt: &HostRuntime, area: Area) -> io::Result<()> {
-        if self.open[number_of(area)].is_none() {
-            let file = open(rt, area)?;
-            self.open[number_of(area)] = Some(Reached { file, len: 0 });
+    fn open(&mut self, area: Area) -> io::Result<()>
+        ensures { Stays self.old.failed self.new.failed }
+    {
+        if self.ready.has(area) {
+            return Ok(());
         }
+        self.system.open(area)?;
+        self.system.try_lock(area)?;
+        if area != Area::Pages {
+            self.fill(area)?;
+        }
+        // Also of a file that was found: what made it may have been killed before this.
+        let answer = self.system.sync_folder();
+        self.noted(area, answer)?;
+        self.ready.mark(area);
         Ok(())
     }
 
-    pub fn len(&mut self, rt: &HostRuntime, area: Area) -> io::Result<u64> {
-        self.ready(rt, area)?;
-        match &mut self.open[number_of(area)] {
-            Some(reached) => reached.len(),
-            None => Err(missing()),
-        }
+    /// How many bytes an area has.
+    pub fn len(&mut self, area: Area) -> io::Result<u64>
+        ensures { Stays self.old.failed self.new.failed }
+    {
+        self.open(area)?;
+        let len = self.system.len(area)?;
+        self.reached[place_of(area)] = len;
+        Ok(len)
     }
 
     /// Fills `into`, or fails where the file is shorter.
-    pub fn read(
-        &mut self,
-        rt: &HostRuntime,
-        area: Area,
-        at: u64,
-        into: &mut [u8],
-    ) -> io::Result<()> {
-        self.ready(rt, area)?;
-        match &self.open[number_of(area)] {
-            Some(reached) => reached.file.read_exact_at(into, at),
-            None => Err(missing()),
-        }
+    pub fn read(&mut self, area: Area, at: u64, into: &mut [u8]) -> io::Result<()>
+        ensures { Stays self.old.failed self.new.failed }
+    {
+        self.open(area)?;
+        self.system.read(area, at, into)
     }
 
-    /// Writes all of `bytes`, or fails where the file is shorter than `at`, or the system takes
-    /// none of a piece.
-    pub fn write_at(
-        &mut self,
-        rt: &HostRuntime,
-        area: Area,
-        at: u64,
-        bytes: &[u8],
-    ) -> io::Result<()> {
-        self.ready(rt, area)?;
-        match &mut self.open[number_of(area)] {
-            Some(reached) => reached.write_at(at, bytes),
-            None => Err(missing()),
+    /// Writes all of `bytes`, or fails where the file is shorter than `at`: never behind a hole.
+    pub fn write_at(&mut self, area: Area, at: u64, bytes: &[u8]) -> io::Result<()>
+        ensures refused { IsTrue (is_marked self.old.failed area) → IsErr result }
+        ensures stays { Stays self.old.failed self.new.failed }
+    {
+        if self.failed.has(area) {
+            return Err(given_up());
         }
+        self.open(area)?;
+        if at > self.reached[place_of(area)] && at > self.len(area)? {
+            return Err(io::Error::from(ErrorKind::UnexpectedEof));
+        }
+        self.system.write(area, at, bytes)?;
+        let end = at.saturating_add(bytes.len() as u64);
+        let reached = self.reached[place_of(area)];
+        self.reached[place_of(area)] = reached.max(end);
+        Ok(())
+    }
+
+    // A sync, which may be the first call of an area.
+    fn sync_open(&mut self, area: Area) -> io::Result<()>
+        ensures { Stays self.old.failed self.new.failed }
+    {
+        self.open(area)?;
+        self.system.sync(area)
     }
 
     /// Makes the bytes and the length of an area durable.
-    pub fn sync(&mut self, rt: &HostRuntime, area: Area) -> io::Result<()> {
-        self.ready(rt, area)?;
-        match &self.open[number_of(area)] {
-            Some(reached) => reached.file.sync_data(),
-            None => Err(missing()),
+    pub fn sync(&mut self, area: Area) -> io::Result<()>
+        ensures refused { IsTrue (is_marked self.old.failed area) → IsErr result }
+        ensures marked { IsErr result → IsTrue (is_marked self.new.failed area) }
+        ensures stays { Stays self.old.failed self.new.failed }
+    {
+        if self.failed.has(area) {
+            return Err(given_up());
         }
+        let answer = self.sync_open(area);
+        self.noted(area, answer)
     }
 }

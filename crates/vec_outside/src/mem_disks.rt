@@ -199,6 +199,8 @@ impl Disks for MemDisks {
         ensures synced { OnOk result (mem_synced self.new area ≡ (mem_disk self.old).seen area) }
         ensures other_synced { (other : Area) → other ≢ area
             → mem_synced self.new other ≡ mem_synced self.old other }
+        ensures other_leaves { (other : Area) (bytes : List ℕ) → other ≢ area
+            → (mem_disk self.old).leaves other bytes → (mem_disk self.new).leaves other bytes }
         ensures failed { IsErrOf result Failed → self.new ≡ asked self.old true }
         ensures due { IsErrOf result Failed ↔ IsDue (disks_plan self.old) }
         ensures plan { disks_plan self.new ≡ counted (disks_plan self.old) (is_failed result) }

@@ -1,12 +1,14 @@
 // Where the workers of a group of jobs may be held up.
 
 /// Called by workers at set places, so that a test can hold one up while others go on. It changes
-/// nothing that a contract names.
+/// nothing that a contract names, so its calls promise nothing.
 pub trait Pace: Sync {
-    /// A worker is between two of its steps, of the job with this place in its group, from 0.
+    /// A worker is between two of its steps of this job. The jobs of a group are numbered from 1, in
+    /// the group's order.
     fn between(&self, job: u32);
 
-    /// A worker looks at the page of this block, and holds what keeps others from changing it.
+    /// A worker looks at the page of this block. It holds the stripe of that block, by which nobody
+    /// else changes the page, and holds nothing else.
     fn looking(&self, block: u32);
 }
 

@@ -114,6 +114,8 @@ impl Timeline {
         ensures synced { OnOk result (synced_image self.new area ≡ bytes_of self.old.areas area) }
         ensures other_synced { (other : Area) → other ≢ area
             → synced_image self.new other ≡ synced_image self.old other }
+        ensures other_leaves { (other : Area) (bytes : List ℕ) → other ≢ area
+            → (timeline_disk self.old).leaves other bytes → (timeline_disk self.new).leaves other bytes }
         ensures err { OnErr result (self.new.done.items ≡ self.old.done.items) }
         ensures time { Elapses (timeline_disk self.old) (timeline_disk self.new) }
     {

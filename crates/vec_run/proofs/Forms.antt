@@ -1,18 +1,19 @@
 -- Lines of the form, one after the other.
-use Rattle.std.proofs.Common.{◌≡◌, refl, sym, ap, ap₂, ◌∙◌, ⊎_elim, inl, inr, subst, ℕ, zero, suc, ◌+◌, ◌^◌, ◌<◌, ◌≤◌, List, [], ◌∷◌, ◌++◌, length, get_or, take, drop, map, arith, append_assoc, length-append}
-use Rattle.std.specs.Prelude.{Bool, Option, Some, None, IfSome, true, false, if◌then◌else◌}
-use Rattle.std.specs.List.{AllZip, onto_first}
-use Rattle.std.proofs.lemmas.List.{append-nil, take_at, take-append-le, take-append-drop, get_or-take, length-take}
+use Rattle.std.proofs.Common.{◌≡◌, refl, sym, ap, ap₂, ◌∙◌, ⊎_elim, inl, inr, subst, ℕ, zero, suc, ◌+◌, ◌-◌, ◌^◌, ◌<◌, ◌≤◌, List, [], ◌∷◌, ◌++◌, length, get_or, take, drop, map, arith, append_assoc, length-append}
+use Rattle.std.specs.Prelude.{Bool, Option, Some, None, IfSome, Result, Ok, Err, IfOk, IfErr, MatchResult, Vec}
+use Rattle.std.specs.List.{AllZip}
+use Rattle.std.proofs.lemmas.List.{append-nil, take_at, take-append-le, take-append-drop, get_or-take, length-take, take-take}
 use Rattle.std.proofs.lemmas.Bool.{cases_lt}
 use Rattle.std.specs.Io.KnownBytes.{Consumes, IsAtEnd}
+use Rattle.std.specs.declared.alloc.Global.{Global}
 use Rattle.vec_names.specs.declared.heap_id.HeapId.{HeapId}
 use Rattle.vec_run.specs.declared.command.Command.{Command}
 use Rattle.vec_run.specs.declared.command.Command.TheVariants.{Row, Query}
-use Rattle.vec_run.specs.declared.fault.ScriptFault.{ScriptFault}
-use Rattle.vec_run.specs.declared.fault.ScriptFault.TheVariants as script
-use Rattle.vec_run.specs.Lines.{lines_of, closed_part, is_line_feed}
-use Rattle.vec_run.proofs.LineCuts.{closed_short}
-use Rattle.vec_run.specs.Grammar.{IsBits, IsPair, IsSkipped, IsLine, IsForm, IsScript, BreaksAt, BreaksBy, IsFirstOutside, IsScriptFault, IsFormFault, IsTextFault, Reads, FitsAfter, AreEqual, AllAre, lengths_of, commands_of, places_in}
+use Rattle.vec_run.specs.declared.refusal.ReadRefusal.{ReadRefusal}
+use Rattle.vec_run.specs.declared.refusal.ReadRefusal.TheVariants as refusal
+use Rattle.vec_run.specs.Refusals.{IsAtLine, IsFormRefusal, IsScriptRefusal, IsSourceRefusal}
+use Rattle.vec_run.specs.Lines.{lines_of, closed_part}
+use Rattle.vec_run.specs.Grammar.{IsBits, IsPair, IsSkipped, IsLine, IsForm, IsScript, BreaksAt, BreaksBy, IsFirstOutside, Reads, FitsAfter, AreEqual, AllAre, lengths_of, commands_of, places_in}
 use Rattle.vec_run.proofs.Cutting.{one_cut}
 use Rattle.vec_run.proofs.Readings.{id_lacks_space}
 
@@ -125,12 +126,12 @@ equal_last (n ∷ ns) m all = all_last n ns m all
 long_more : (texts : List (List ℕ)) (text : List ℕ) → length (texts ++ text ∷ []) ≡ length texts + 1
 long_more texts text = length-append texts (text ∷ [])
 
-pub reads_none : (texts : List (List ℕ)) → texts ≡ [] → (commands : List Command) → commands ≡ [] → Reads texts commands 0
+pub reads_none : (texts : List (List ℕ)) → texts ≡ [] → (commands : List Command) → commands ≡ [] → Reads texts commands 1
 reads_none texts is commands none = record {
   lines = [];
   form = record { each = subst (λ (ts : List (List ℕ)). AllZip IsLine ts []) (sym is) tt; one_length = tt };
   gives = none;
-  counted = sym (ap (λ (ts : List (List ℕ)). length ts) is);
+  counted = sym (ap (λ (ts : List (List ℕ)). length ts + 1) is);
 }
 
 -- a line that is skipped
@@ -142,7 +143,7 @@ reads_skipped texts text commands count reads is = record {
     one_length = subst AreEqual (sym (lengths-append reads.lines (None ∷ []) ∙ append-nil (lengths_of reads.lines))) reads.form.one_length;
   };
   gives = reads.gives ∙ sym (commands-append reads.lines (None ∷ []) ∙ append-nil (commands_of reads.lines));
-  counted = sym (long_more texts text ∙ ap (λ (n : ℕ). n + 1) (sym reads.counted));
+  counted = ap (λ (n : ℕ). n + 1) (reads.counted ∙ sym (long_more texts text));
 }
 
 fits_lengths : (lines : List (Option Command)) (commands : List Command) (m : ℕ) → commands ≡ commands_of lines → FitsAfter (map places_in commands) m → FitsAfter (lengths_of lines) m
@@ -160,47 +161,54 @@ reads_command texts text commands new count command reads is fits pushed = recor
         (equal_more (lengths_of reads.lines) (places_in command) reads.form.one_length (fits_lengths reads.lines commands (places_in command) reads.gives fits));
   };
   gives = pushed ∙ ap (λ (cs : List Command). cs ++ command ∷ []) reads.gives ∙ sym (commands-append reads.lines (Some command ∷ []));
-  counted = sym (long_more texts text ∙ ap (λ (n : ℕ). n + 1) (sym reads.counted));
+  counted = ap (λ (n : ℕ). n + 1) (reads.counted ∙ sym (long_more texts text));
 }
 
 -- a text that is no line
-pub text_outside : (texts : List (List ℕ)) (text : List ℕ) (commands : List Command) (count : ℕ) → Reads texts commands count → ((line : Option Command) → IsLine text line → ⊥) → IsTextFault texts text (script.Line count)
-text_outside texts text commands count reads none = (reads.counted, λ others form. let ends = ends_of texts text others form.each in none ends.last ends.is_line)
+pub text_outside : (texts : List (List ℕ)) (text : List ℕ) → ((line : Option Command) → IsLine text line → ⊥) → (others : List (Option Command)) → IsForm (texts ++ text ∷ []) others → ⊥
+text_outside texts text none others form = let ends = ends_of texts text others form.each in none ends.last ends.is_line
 
 -- a value of another length than the first
 pub length_outside : (texts : List (List ℕ)) (text : List ℕ) (commands : List Command) (count : ℕ) (command : Command) → Reads texts commands count → IsLine text (Some command)
-    → (FitsAfter (map places_in commands) (places_in command) → ⊥) → IsTextFault texts text (script.Line count)
-length_outside texts text commands count command reads is unfit = (
-  reads.counted,
-  λ others form.
-      let ends = ends_of texts text others form.each in
-      let all : AreEqual (lengths_of ends.before ++ lengths_of (ends.last ∷ [])) = subst AreEqual (ap lengths_of ends.parts ∙ lengths-append ends.before (ends.last ∷ [])) form.one_length in
-      let last : lengths_of (ends.last ∷ []) ≡ places_in command ∷ [] = lengths-one ends.last ∙ one_length text ends.last (Some command) ends.is_line is in
-      let before : lengths_of ends.before ≡ map places_in commands =
-      same_lengths texts ends.before reads.lines ends.each reads.form.each ∙ sym (lengths-commands reads.lines) ∙ ap (λ (cs : List Command). map places_in cs) (sym reads.gives) in
-      unfit (equal_last (map places_in commands) (places_in command) (subst AreEqual (ap₂ (λ (us vs : List ℕ). us ++ vs) before last) all)),
-)
+    → (FitsAfter (map places_in commands) (places_in command) → ⊥) → (others : List (Option Command)) → IsForm (texts ++ text ∷ []) others → ⊥
+length_outside texts text commands count command reads is unfit others form =
+    let ends = ends_of texts text others form.each in
+    let all : AreEqual (lengths_of ends.before ++ lengths_of (ends.last ∷ [])) = subst AreEqual (ap lengths_of ends.parts ∙ lengths-append ends.before (ends.last ∷ [])) form.one_length in
+    let last : lengths_of (ends.last ∷ []) ≡ places_in command ∷ [] = lengths-one ends.last ∙ one_length text ends.last (Some command) ends.is_line is in
+    let before : lengths_of ends.before ≡ map places_in commands =
+    same_lengths texts ends.before reads.lines ends.each reads.form.each ∙ sym (lengths-commands reads.lines) ∙ ap (λ (cs : List Command). map places_in cs) (sym reads.gives) in
+    unfit (equal_last (map places_in commands) (places_in command) (subst AreEqual (ap₂ (λ (us vs : List ℕ). us ++ vs) before last) all))
+
+-- a text that was refused by the number behind these texts
+pub line_refused : (texts : List (List ℕ)) (text : List ℕ) (commands : List Command) (next : ℕ) (why : ReadRefusal) → Reads texts commands next → IsAtLine next ((line : Option Command) → IsLine text line → ⊥) why
+    → IsAtLine (length texts + 1) ((others : List (Option Command)) → IsForm (texts ++ text ∷ []) others → ⊥) why
+line_refused texts text commands next refusal.Memory reads bad = tt
+line_refused texts text commands next refusal.Failed reads bad = bad
+line_refused texts text commands next (refusal.Line k) reads bad = (bad.0 ∙ reads.counted, text_outside texts text bad.1)
 
 pub counted_more : (texts : List (List ℕ)) (text : List ℕ) (commands new : List Command) (count more : ℕ) → Reads texts commands count → Reads (texts ++ text ∷ []) new more → more ≡ count + 1
-counted_more texts text commands new count more reads goes = goes.counted ∙ long_more texts text ∙ ap (λ (n : ℕ). n + 1) (sym reads.counted)
+counted_more texts text commands new count more reads goes = goes.counted ∙ ap (λ (n : ℕ). n + 1) (long_more texts text ∙ sym reads.counted)
 
 -- ---- the whole text
 
 -- a text that does not go on is where the text breaks
-pub breaks : (bytes rest : List ℕ) (texts : List (List ℕ)) (text : List ℕ) (commands : List Command) (count : ℕ) (fault : ScriptFault) → Reads texts commands count → lines_of bytes ≡ texts ++ text ∷ lines_of rest
-    → IsTextFault texts text fault → IsFormFault (lines_of bytes) fault
-breaks bytes rest texts text commands count script.Memory reads is bad = tt
-breaks bytes rest texts text commands count (script.Line k) reads is bad =
-    let front : take k (lines_of bytes) ≡ texts =
-    ap (λ (l : List (List ℕ)). take k l) is ∙ take_at texts (text ∷ lines_of rest) k (sym bad.0) in
+pub breaks : (bytes rest : List ℕ) (texts : List (List ℕ)) (text : List ℕ) (commands : List Command) (count : ℕ) (why : ReadRefusal) → Reads texts commands count → lines_of bytes ≡ texts ++ text ∷ lines_of rest
+    → IsAtLine (length texts + 1) ((others : List (Option Command)) → IsForm (texts ++ text ∷ []) others → ⊥) why → IsFormRefusal (lines_of bytes) why
+breaks bytes rest texts text commands count refusal.Memory reads is bad = tt
+breaks bytes rest texts text commands count refusal.Failed reads is bad = bad
+breaks bytes rest texts text commands count (refusal.Line k) reads is bad =
+    let above : k - 1 ≡ length texts = omega (arith, bad.0) in
+    let front : take (k - 1) (lines_of bytes) ≡ texts =
+    ap (λ (l : List (List ℕ)). take (k - 1) l) is ∙ take_at texts (text ∷ lines_of rest) (k - 1) (sym above) in
     let longer : lines_of bytes ≡ (texts ++ text ∷ []) ++ lines_of rest = is ∙ sym (append_assoc texts (text ∷ []) (lines_of rest)) in
-    let front_and : take (k + 1) (lines_of bytes) ≡ texts ++ text ∷ [] =
-    ap (λ (l : List (List ℕ)). take (k + 1) l) longer ∙ take_at (texts ++ text ∷ []) (lines_of rest) (k + 1) (long_more texts text ∙ ap (λ (n : ℕ). n + 1) (sym bad.0)) in
+    let front_and : take k (lines_of bytes) ≡ texts ++ text ∷ [] =
+    ap (λ (l : List (List ℕ)). take k l) longer ∙ take_at (texts ++ text ∷ []) (lines_of rest) k (long_more texts text ∙ sym bad.0) in
     let size : length (lines_of bytes) ≡ length texts + suc (length (lines_of rest)) = ap (λ (l : List (List ℕ)). length l) is ∙ length-append texts (text ∷ lines_of rest) in
     record {
       lines = reads.lines;
-      before = subst (λ (ts : List (List ℕ)). IsForm ts reads.lines) (sym front) reads.form;
+      counted = omega (arith, bad.0);
       within = omega (arith, size, bad.0);
+      before = subst (λ (ts : List (List ℕ)). IsForm ts reads.lines) (sym front) reads.form;
       broken = λ others form. bad.1 others (subst (λ (ts : List (List ℕ)). IsForm ts others) front_and form);
     }
 
@@ -220,16 +228,20 @@ ends bytes (b ∷ rest) texts commands count reads is none = absurd (omega (arit
 pub script_from : (bytes : List ℕ) (commands : List Command) (count : ℕ) → length bytes ≤ 2 ^ 28 → Reads (lines_of bytes) commands count → IsScript bytes commands
 script_from bytes commands count few reads = record { lines = reads.lines; few = few; form = reads.form; gives = reads.gives }
 
-pub short_fault : (bytes : List ℕ) (fault : ScriptFault) → length bytes ≤ 2 ^ 28 → IsFormFault (lines_of bytes) fault → IsScriptFault bytes fault
-short_fault bytes script.Memory few bad = tt
-short_fault bytes (script.Line k) few bad = inl (few, bad)
+pub short_refused : (bytes : List ℕ) (why : ReadRefusal) → length bytes ≤ 2 ^ 28 → IsFormRefusal (lines_of bytes) why → IsScriptRefusal bytes why
+short_refused bytes refusal.Memory few bad = tt
+short_refused bytes refusal.Failed few bad = bad
+short_refused bytes (refusal.Line k) few bad = inl (few, bad)
 
-pub long_fault : (bytes front : List ℕ) (fault : ScriptFault) → 2 ^ 28 < length bytes → front ≡ closed_part (take (2 ^ 28) bytes) → IsFormFault (lines_of front) fault → IsScriptFault bytes fault
-long_fault bytes front script.Memory many is bad = tt
-long_fault bytes front (script.Line k) many is bad = inr (many, inl (subst (λ (l : List ℕ). BreaksAt (lines_of l) k) is bad))
+pub long_refused : (bytes front : List ℕ) (why : ReadRefusal) → 2 ^ 28 < length bytes → front ≡ closed_part (take (2 ^ 28) bytes) → IsFormRefusal (lines_of front) why → IsScriptRefusal bytes why
+long_refused bytes front refusal.Memory many is bad = tt
+long_refused bytes front refusal.Failed many is bad = bad
+long_refused bytes front (refusal.Line k) many is bad = inr (many, inl (subst (λ (l : List ℕ). BreaksAt (lines_of l) k) is bad))
 
-pub past_fault : (bytes front : List ℕ) (commands : List Command) (count : ℕ) → 2 ^ 28 < length bytes → front ≡ closed_part (take (2 ^ 28) bytes) → Reads (lines_of front) commands count → IsScriptFault bytes (script.Line count)
-past_fault bytes front commands count many is reads = inr (many, inr (reads.counted ∙ ap (λ (l : List ℕ). length (lines_of l)) is, (reads.lines, subst (λ (l : List ℕ). IsForm (lines_of l) reads.lines) is reads.form)))
+pub past_refused : (bytes front : List ℕ) (commands : List Command) (count : ℕ) → 2 ^ 28 < length bytes → front ≡ closed_part (take (2 ^ 28) bytes) → Reads (lines_of front) commands count
+    → IsScriptRefusal bytes (refusal.Line count)
+past_refused bytes front commands count many is reads =
+    inr (many, inr (reads.counted ∙ ap (λ (l : List ℕ). length (lines_of l) + 1) is, (reads.lines, subst (λ (l : List ℕ). IsForm (lines_of l) reads.lines) is reads.form)))
 
 -- the values of a script's commands have one length
 pub script_lengths : (bytes : List ℕ) (commands : List Command) → IsScript bytes commands → AreEqual (map places_in commands)
@@ -283,6 +295,19 @@ same_length_above commands at k d command all inside within is =
     let below : k < at = omega (arith, within, length-take at commands) in
     ap places_in (get_or-take at commands k d below) ∙ equal_at commands k at d command all (omega (arith, below, inside)) inside ∙ ap places_in (sym is)
 
+-- what a reading of the source's bytes says of the source
+pub source_refused : (left left' : Option (List ℕ)) (bytes text : List ℕ) (result : Result (Vec Command Global) ReadRefusal) → text ≡ bytes → Consumes left left' bytes
+    → (length bytes ≤ 2 ^ 28 → IsAtEnd left') → MatchResult result (λ commands. IsScript text commands.items) (IsScriptRefusal text) → IfErr result (IsSourceRefusal left)
+source_refused left left' bytes text (Ok commands) same taken ended is = tt
+source_refused left left' bytes text (Err refusal.Memory) same taken ended is = tt
+source_refused left left' bytes text (Err refusal.Failed) same taken ended is = tt
+source_refused left left' bytes text (Err (refusal.Line k)) same taken ended is = outside_source left left' bytes k taken ended (subst (λ (l : List ℕ). IsFirstOutside l k) same is)
+
+pub read_lengths : (bytes : List ℕ) (result : Result (Vec Command Global) ReadRefusal) → MatchResult result (λ commands. IsScript bytes commands.items) (IsScriptRefusal bytes)
+    → IfOk result (λ commands. AreEqual (map places_in commands.items))
+read_lengths bytes (Ok commands) is = script_lengths bytes commands.items is
+read_lengths bytes (Err why) is = tt
+
 -- ---- a script has no line outside
 
 all_front : (n : ℕ) (us vs : List ℕ) → AllAre n (us ++ vs) → AllAre n us
@@ -309,30 +334,35 @@ form_front n texts lines form = record {
 }
 
 pub no_line_outside : (bytes : List ℕ) (commands : List Command) (k : ℕ) → IsScript bytes commands → IsFirstOutside bytes k → ⊥
-no_line_outside bytes commands k script (inl short) = short.1.broken (take (k + 1) script.lines) (form_front (k + 1) (lines_of bytes) script.lines script.form)
+no_line_outside bytes commands k script (inl short) = short.1.broken (take k script.lines) (form_front k (lines_of bytes) script.lines script.form)
 no_line_outside bytes commands k script (inr long) = let few = script.few in let many = long.0 in absurd (omega (arith, few, many))
 
 pub source_not_refused : (left : Option (List ℕ)) (input : List ℕ) (commands : List Command) (k : ℕ) → left ≡ Some input → IsScript input commands → IfSome left (λ bytes. IsFirstOutside bytes k) → ⊥
 source_not_refused left input commands k told script refused = no_line_outside input commands k script (subst (λ (o : Option (List ℕ)). IfSome o (λ bytes. IsFirstOutside bytes k)) told refused)
 
--- ---- the number of a line
+-- ---- at most one line is the first outside
 
-first_short : (byte : ℕ) (parts : List (List ℕ)) (n : ℕ) → length parts ≤ n → length (onto_first byte parts) ≤ suc n
-first_short byte [] n h = omega arith
-first_short byte (p ∷ parts) n h = omega (arith, h)
+-- texts that break at a place are of the form before it, and at no earlier place do they break
+not_before : (texts : List (List ℕ)) (j k : ℕ) → BreaksAt texts j → BreaksAt texts k → j < k → ⊥
+not_before texts j k first later less =
+    let short : j ≤ k - 1 = omega (arith, less) in
+    first.broken (take j later.lines) (subst (λ (ts : List (List ℕ)). IsForm ts (take j later.lines)) (take-take j (k - 1) texts short) (form_front j (take (k - 1) texts) later.lines later.before))
 
-lines_short : (bytes : List ℕ) → length (lines_of bytes) ≤ length bytes
-lines_short [] = omega arith
-lines_short (b ∷ bytes) = by_test (is_line_feed b) (lines_short bytes)
-  where
-    by_test : (test : Bool) → length (lines_of bytes) ≤ length bytes → length (if test then [] ∷ lines_of bytes else onto_first b (lines_of bytes)) ≤ suc (length bytes)
-    by_test true fewer = omega (arith, fewer)
-    by_test false fewer = first_short b (lines_of bytes) (length bytes) fewer
+one_break : (texts : List (List ℕ)) (j k : ℕ) → BreaksAt texts j → BreaksAt texts k → j ≡ k
+one_break texts j k a b = ⊎_elim (λ less. absurd (not_before texts j k a b less)) (λ more. ⊎_elim (λ less. absurd (not_before texts k j b a less)) (λ other. omega (arith, more, other)) (cases_lt k j)) (cases_lt j k)
 
-closed_few : (bytes : List ℕ) → length (lines_of (closed_part (take (2 ^ 28) bytes))) ≤ 2 ^ 28
-closed_few bytes = omega (arith, lines_short (closed_part (take (2 ^ 28) bytes)), closed_short (take (2 ^ 28) bytes), length-take (2 ^ 28) bytes)
+-- texts of the form do not break
+no_break : (texts : List (List ℕ)) (k : ℕ) (lines : List (Option Command)) → IsForm texts lines → BreaksAt texts k → ⊥
+no_break texts k lines form at = at.broken (take k lines) (form_front k texts lines form)
 
-pub outside_small : (bytes : List ℕ) (k : ℕ) → IsFirstOutside bytes k → k ≤ 2 ^ 28
-outside_small bytes k (inl short) = let within = short.1.within in let few = short.0 in omega (arith, within, few, lines_short bytes)
-outside_small bytes k (inr (many, inl breaks)) = let within = breaks.within in omega (arith, within, closed_few bytes)
-outside_small bytes k (inr (many, inr after)) = let is = after.0 in omega (arith, is, closed_few bytes)
+one_break_by : (texts : List (List ℕ)) (j k : ℕ) → BreaksBy texts j → BreaksBy texts k → j ≡ k
+one_break_by texts j k (inl a) (inl b) = one_break texts j k a b
+one_break_by texts j k (inl a) (inr b) = absurd (no_break texts j b.1.0 b.1.1 a)
+one_break_by texts j k (inr a) (inl b) = absurd (no_break texts k a.1.0 a.1.1 b)
+one_break_by texts j k (inr a) (inr b) = a.0 ∙ sym b.0
+
+pub one_outside : (bytes : List ℕ) (a b : ℕ) → IsFirstOutside bytes a → IsFirstOutside bytes b → a ≡ b
+one_outside bytes a b (inl short) (inl other) = one_break (lines_of bytes) a b short.1 other.1
+one_outside bytes a b (inl short) (inr long) = let few = short.0 in let many = long.0 in absurd (omega (arith, few, many))
+one_outside bytes a b (inr long) (inl short) = let few = short.0 in let many = long.0 in absurd (omega (arith, few, many))
+one_outside bytes a b (inr long) (inr other) = one_break_by (lines_of (closed_part (take (2 ^ 28) bytes))) a b long.1 other.1

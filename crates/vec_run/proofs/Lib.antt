@@ -1,5 +1,6 @@
 mod AnswerSteps
 mod Cutting
+mod Ending
 mod Forms
 mod LineCuts
 mod Moving

@@ -13,10 +13,11 @@ use Rattle.bit_code.specs.Texts.{is_bit_character, first_bad, IsFaultOf}
 use Rattle.bit_code.specs.declared.fault.BitsFault.{BitsFault}
 use Rattle.bit_code.specs.declared.fault.BitsFault.TheVariants as bits
 use Rattle.vec_names.specs.declared.heap_id.HeapId.{HeapId}
-use Rattle.vec_run.specs.declared.fault.LineFault.{LineFault}
-use Rattle.vec_run.specs.declared.fault.LineFault.TheVariants.{Memory, Outside}
+use Rattle.vec_run.specs.declared.refusal.ReadRefusal.{ReadRefusal}
+use Rattle.vec_run.specs.declared.refusal.ReadRefusal.TheVariants.{Memory, Failed, Line}
+use Rattle.vec_run.specs.Refusals.{IsAtLine, value_refusal}
 use Rattle.vec_run.specs.Lines.{Lacks, IsCutAt}
-use Rattle.vec_run.specs.Grammar.{IsId, IsBits, IsPair, IsOutsideOr, IsSkipped, IsLine, line_fault_of}
+use Rattle.vec_run.specs.Grammar.{IsId, IsBits, IsPair, IsSkipped, IsLine}
 use Rattle.vec_run.specs.declared.command.Command.{Command}
 use Rattle.vec_run.specs.declared.command.Command.TheVariants.{Row, Query}
 use Rattle.vec_run.proofs.Cutting.{lacks_append, lacks_cons, decimal_lacks, no_cut, cut_parts}
@@ -75,19 +76,23 @@ pub bits_utf8 : (text : List ℕ) (value : List Bool) → IsBits text value → 
 bits_utf8 text value is = IsUtf8-from_ascii text (bit_text_ascii text is.0.good)
 
 -- a text with a fault is no bit value
-pub bad_text : (text : List ℕ) (fault : BitsFault) → IsFaultOf text fault → IsOutsideOr ((value : List Bool) → IsBits text value → ⊥) (line_fault_of fault)
-bad_text text bits.Memory bad = tt
-bad_text text bits.Empty bad = λ value is. let some = is.0.some in let none : length text ≡ 0 = ap (λ (l : List ℕ). length l) bad in absurd (omega (arith, some, none))
-bad_text text (bits.BadPlace k) bad = λ value is.
-    let whole : take 64000 text ≡ text = take_all 64000 text is.0.few in
-    let found : None ≡ Some k = sym is.0.good ∙ ap first_bad (sym whole) ∙ bad in
-    absurd (cc)
-bad_text text bits.TooLong bad = λ value is. let few = is.0.few in let many = bad.0 in absurd (omega (arith, few, many))
+pub bad_text : (text : List ℕ) (number : ℕ) (fault : BitsFault) → IsFaultOf text fault → IsAtLine number ((value : List Bool) → IsBits text value → ⊥) (value_refusal number fault)
+bad_text text number bits.Memory bad = tt
+bad_text text number bits.Empty bad = (refl, λ value is. let some = is.0.some in let none : length text ≡ 0 = ap (λ (l : List ℕ). length l) bad in absurd (omega (arith, some, none)))
+bad_text text number (bits.BadPlace k) bad = (
+  refl,
+  λ value is.
+      let whole : take 64000 text ≡ text = take_all 64000 text is.0.few in
+      let found : None ≡ Some k = sym is.0.good ∙ ap first_bad (sym whole) ∙ bad in
+      absurd (cc),
+)
+bad_text text number bits.TooLong bad = (refl, λ value is. let few = is.0.few in let many = bad.0 in absurd (omega (arith, few, many)))
 
 -- a weaker reason
-pub outside_weaker : {P Q : Type 0} (fault : LineFault) → (P → Q) → IsOutsideOr P fault → IsOutsideOr Q fault
-outside_weaker Memory weaker p = tt
-outside_weaker Outside weaker p = weaker p
+pub weaker : {P Q : Type 0} (number : ℕ) (refusal : ReadRefusal) → (P → Q) → IsAtLine number P refusal → IsAtLine number Q refusal
+weaker number Memory less p = tt
+weaker number Failed less p = p
+weaker number (Line line) less p = (p.0, less p.1)
 
 -- ---- an id and a value
 

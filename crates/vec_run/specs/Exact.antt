@@ -1,14 +1,9 @@
 -- What a run of `exact` does to its source and its sink.
-use Rattle.std.specs.Prelude.{ℕ, ◌≡◌, ◌⊎◌, ◌+◌, ◌^◌, ◌<◌, ◌≤◌, Bool, IsTrue, List, [], ◌∷◌, ◌++◌, length, take, map, codes, Option, IfSome, String, string_bytes}
+use Rattle.std.specs.Prelude.{ℕ, ◌≡◌, ◌⊎◌, ◌+◌, ◌^◌, ◌<◌, ◌≤◌, Bool, IsTrue, List, ◌++◌, length, take, Option, IfSome}
 use Rattle.std.specs.Io.KnownBytes.{Appends, Consumes, IsAtEnd}
-use Rattle.std.specs.declared.alloc.Global.{Global}
 use Rattle.vec_run.specs.declared.command.Command.{Command}
-use Rattle.vec_run.specs.Grammar.{IsScript, IsFirstOutside}
+use Rattle.vec_run.specs.Grammar.{IsScript}
 use Rattle.vec_run.specs.Replies.{replies_of}
-
--- the words are the single word `exact`
-abbrev pub AreExact : List (String Global) → Type 0
-AreExact words = map string_bytes words ≡ codes "exact" ∷ []
 
 -- known bytes lose at most so many from their front
 abbrev pub TakesAtMost : ℕ → Option (List ℕ) → Option (List ℕ) → Type 0
@@ -35,12 +30,10 @@ pub record MovesFront (held held' : Option (List ℕ)) (gathered left : List ℕ
 
 -- The source was read to its end. Its bytes are a script, and what was written are the replies to its commands.
 abbrev pub Answers : Option (List ℕ) → Option (List ℕ) → Option (List ℕ) → Option (List ℕ) → Type 0
-Answers left left' held held' = IfSome left (λ input. IsAtEnd left' × ((commands : List Command) × IsScript input commands × Appends held held' (replies_of commands)))
+Answers left left' held held' = IfSome left (λ input.
+    IsAtEnd left' × ((commands : List Command) × IsScript input commands × Appends held held' (replies_of commands)))
 
 -- The source's bytes are a script, and what was written is a front of the replies to its commands.
 abbrev pub AnswersFront : Option (List ℕ) → Option (List ℕ) → Option (List ℕ) → Type 0
-AnswersFront left held held' = IfSome left (λ input. (commands : List Command) × IsScript input commands × AppendsFront held held' (replies_of commands))
-
--- the line of this number, from 1, is the first of the source's bytes that is outside the form
-abbrev pub IsRefusedAt : Option (List ℕ) → ℕ → Type 0
-IsRefusedAt left line = IfSome left (λ input. (k : ℕ) × (line ≡ k + 1) × IsFirstOutside input k)
+AnswersFront left held held' = IfSome left (λ input.
+    (commands : List Command) × IsScript input commands × AppendsFront held held' (replies_of commands))

@@ -1,17 +1,11 @@
 -- The script of `exact`: which texts are its lines, and where a text first leaves it.
-use Rattle.std.specs.Prelude.{ℕ, ◌≡◌, ◌⊎◌, ◌+◌, ◌^◌, ◌<◌, ◌≤◌, Bool, Option, Some, None, List, [], ◌∷◌, ◌++◌, length, take, codes, decimal}
+use Rattle.std.specs.Prelude.{ℕ, ◌≡◌, ◌⊎◌, ◌+◌, ◌-◌, ◌^◌, ◌<◌, ◌≤◌, Bool, Option, Some, None, List, [], ◌∷◌, ◌++◌, length, take, codes, decimal}
 use Rattle.std.specs.List.{AllZip, filter_map}
 use Rattle.vec_names.specs.declared.heap_id.HeapId.{HeapId}
 use Rattle.bit_code.specs.Texts.{IsBitText, places_of_text}
 use Rattle.vec_run.specs.Lines.{lines_of, closed_part}
 use Rattle.vec_run.specs.declared.command.Command.{Command}
 use Rattle.vec_run.specs.declared.command.Command.TheVariants.{Row, Query}
-use Rattle.vec_run.specs.declared.fault.LineFault.{LineFault}
-use Rattle.vec_run.specs.declared.fault.LineFault.TheVariants.{Memory, Outside}
-use Rattle.vec_run.specs.declared.fault.ScriptFault.{ScriptFault}
-use Rattle.vec_run.specs.declared.fault.ScriptFault.TheVariants as script
-use Rattle.bit_code.specs.declared.fault.BitsFault.{BitsFault}
-use Rattle.bit_code.specs.declared.fault.BitsFault.TheVariants as bits
 
 -- B/O: a block of 0 to 4294967294 and an offset of 1 to 65535, both in decimal with no leading zero
 pub record IsId (text : List ℕ) (id : HeapId) : Type 0 where
@@ -91,56 +85,31 @@ pub record IsScript (bytes : List ℕ) (commands : List Command) : Type 0 where
   pub form : IsForm (lines_of bytes) lines
   pub gives : commands ≡ commands_of lines
 
--- the texts before place k, from 0, are of the form, and with the one at k they are not
+-- text k, from 1, is the first with which the texts leave the form
 pub record BreaksAt (texts : List (List ℕ)) (k : ℕ) : Type 0 where
   pub lines : List (Option Command)
-  pub before : IsForm (take k texts) lines
-  pub within : k < length texts
-  pub broken : (others : List (Option Command)) → IsForm (take (k + 1) texts) others → ⊥
+  pub counted : 1 ≤ k
+  pub within : k ≤ length texts
+  pub before : IsForm (take (k - 1) texts) lines
+  pub broken : (others : List (Option Command)) → ¬ IsForm (take k texts) others
 
 -- one of these texts is the first that is outside, or the text after them
 abbrev pub BreaksBy : List (List ℕ) → ℕ → Type 0
-BreaksBy texts k = BreaksAt texts k ⊎ ((k ≡ length texts) × ((lines : List (Option Command)) × IsForm texts lines))
+BreaksBy texts k = BreaksAt texts k ⊎ ((k ≡ length texts + 1) × ((lines : List (Option Command)) × IsForm texts lines))
 
--- Line k, from 0, is the first that is outside the form. The line that holds byte 2^28 + 1 is outside.
+-- Line k, from 1, is the first that is outside the form. The line that holds byte 2^28 + 1 is outside.
 abbrev pub IsFirstOutside : List ℕ → ℕ → Type 0
 IsFirstOutside bytes k = ((length bytes ≤ 2 ^ 28) × BreaksAt (lines_of bytes) k)
     ⊎ ((2 ^ 28 < length bytes) × BreaksBy (lines_of (closed_part (take (2 ^ 28) bytes))) k)
 
--- of want of memory nothing is said; a line that is outside has this
-abbrev pub IsOutsideOr : Type 0 → LineFault → Type 0
-IsOutsideOr P Memory = Unit {0}
-IsOutsideOr P Outside = P
-
--- what a text that is no bit value makes of a line
-abbrev pub line_fault_of : BitsFault → LineFault
-line_fault_of bits.Memory = Memory
-line_fault_of bits.Empty = Outside
-line_fault_of (bits.BadPlace k) = Outside
-line_fault_of bits.TooLong = Outside
-
--- of want of memory nothing is said; a line's number counts from 0
-abbrev pub IsScriptFault : List ℕ → ScriptFault → Type 0
-IsScriptFault bytes script.Memory = Unit {0}
-IsScriptFault bytes (script.Line k) = IsFirstOutside bytes k
-
 -- ---- while a script is read
 
--- these texts are of the form, and give these commands
-pub record Reads (texts : List (List ℕ)) (commands : List Command) (count : ℕ) : Type 0 where
+-- these texts are of the form, and give these commands; the line behind them has this number, from 1
+pub record Reads (texts : List (List ℕ)) (commands : List Command) (next : ℕ) : Type 0 where
   pub lines : List (Option Command)
   pub form : IsForm texts lines
   pub gives : commands ≡ commands_of lines
-  pub counted : count ≡ length texts
-
-abbrev pub IsFormFault : List (List ℕ) → ScriptFault → Type 0
-IsFormFault texts script.Memory = Unit {0}
-IsFormFault texts (script.Line k) = BreaksAt texts k
-
--- a text that does not go on with texts of the form
-abbrev pub IsTextFault : List (List ℕ) → List ℕ → ScriptFault → Type 0
-IsTextFault texts text script.Memory = Unit {0}
-IsTextFault texts text (script.Line k) = (k ≡ length texts) × ((others : List (Option Command)) → IsForm (texts ++ text ∷ []) others → ⊥)
+  pub counted : next ≡ length texts + 1
 
 -- a value of so many places may follow values of these
 abbrev pub FitsAfter : List ℕ → ℕ → Type 0

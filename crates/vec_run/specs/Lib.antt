@@ -1,5 +1,7 @@
-pub mod Lines
-pub mod Grammar
-pub mod Replies
+pub mod Ends
 pub mod Exact
-pub mod Halts
+pub mod Grammar
+pub mod Lines
+pub mod Refusals
+pub mod Replies
+pub mod Verbs

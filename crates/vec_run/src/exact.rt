@@ -1,14 +1,19 @@
 // The run of `exact`.
-ghost use Rattle.std.specs.Prelude.{◌≡◌, ◌+◌, ◌^◌, ◌<◌, ◌≤◌, [], ◌++◌, length, map, OnOk, OnErr, IfOk, IfErr, IfSome};
+ghost use Rattle.std.specs.Prelude.{ℕ, ◌≡◌, ◌+◌, ◌^◌, ◌<◌, ◌≤◌, [], ◌++◌, length, map, OnOk, OnErr, IfOk, IfErr, IfSome};
 ghost use Rattle.std.specs.Io.KnownBytes.{Appends, IsAtEnd};
-ghost use Rattle.vec_outside.specs.Causes.{Rose};
+ghost use Rattle.vec_outside.specs.Causes.{HasCause, Rose};
+ghost use Rattle.vec_run.specs.Exact.{AppendsFront, MovesFront, TakesAtMost};
 ghost use Rattle.vec_run.specs.Grammar.{AreEqual, IsScript, places_in};
+ghost use Rattle.vec_run.specs.Refusals.{IsSourceRefusal};
 ghost use Rattle.vec_run.specs.Replies.{replies_of, reply_at};
-ghost use Rattle.vec_run.specs.Exact.{Answers, AppendsFront, MovesFront, TakesAtMost};
-ghost use Rattle.vec_run.specs.Halts.{HasSmallLine, HaltsReading, HaltsWriting, IsBeforeWriting, IsHaltedBy};
+ghost use Rattle.vec_run.specs.Verbs.{IsEndOf};
+ghost use Rattle.vec_run.specs.declared.end.End.TheVariants as end;
+ghost use Rattle.vec_run.specs.declared.refusal.ReadRefusal.TheVariants as refusal;
+ghost use Rattle.vec_run.specs.declared.top.Verb.TheVariants.{Exact};
 
 use crate::command::Command;
-use crate::fault::ScriptFault;
+use crate::end::End;
+use crate::refusal::ReadRefusal;
 use crate::replies::write_answer;
 use crate::script::read_script;
 use crate::streams::{read_whole, write_whole};
@@ -18,80 +23,50 @@ use vec_outside::{Outage, Sink, Source};
 // Replies are gathered to pieces of this size before they are written.
 const PIECE: usize = 1 << 16;
 
-/// Why a run stops before its end.
-#[derive(Clone, Copy, Debug, PartialEq, Eq)]
-pub enum Halt {
-    /// No memory was found.
-    Memory,
-    /// The line of this number, from 0, is the first that is outside the form.
-    Line(u64),
-    /// A read of the source failed.
-    Read,
-    /// A write to the sink failed.
-    Write,
-}
-
-impl From<AllocError> for Halt {
-    ghost use Rattle.std.specs.Prelude.{◌≡◌};
-    ghost use Rattle.vec_run.specs.declared.exact.Halt.TheVariants.{Memory};
-
-    ghost from_gives = { λ _ e. e ≡ Memory };
-
-    fn from(_: AllocError) -> Self {
-        Halt::Memory
-    }
-}
-
 /// Reads the whole source, and writes the replies to its queries.
-pub fn run_exact<S: Source, K: Sink>(
-    alloc: Global,
-    source: &mut S,
-    sink: &mut K,
-) -> Result<(), Halt>
-    ensures done { OnOk result (Answers (S.left source.old) (S.left source.new) (K.held sink.old) (K.held sink.new)) }
-    ensures halt { IfErr result (IsHaltedBy (S.left source.old) (K.held sink.old) (K.held sink.new)) }
-    ensures small { IfErr result HasSmallLine }
-    ensures untouched { IfErr result (λ halt. IsBeforeWriting halt → sink.new ≡ sink.old) }
+pub fn run_exact<S: Source, K: Sink>(alloc: Global, source: &mut S, sink: &mut K) -> End
+    ensures end { IsEndOf Exact (S.left source.old) (S.left source.new) (K.held sink.old) (K.held sink.new) result }
+    ensures refused { (line : ℕ) → result ≡ end.Line line → sink.new ≡ sink.old }
+    ensures unread { result ≡ end.Read → sink.new ≡ sink.old }
+    ensures read { result ≡ end.Read → Rose (S.count source.old) (S.count source.new) }
+    ensures write { result ≡ end.Write → Rose (K.count sink.old) (K.count sink.new) }
     ensures taken { TakesAtMost (2 ^ 28 + 1) (S.left source.old) (S.left source.new) }
-    ensures read { IfErr result (λ halt. halt ≡ Halt.Read → Rose (S.count source.old) (S.count source.new)) }
-    ensures write { IfErr result (λ halt. halt ≡ Halt.Write → Rose (K.count sink.old) (K.count sink.new)) }
     ensures source_later { S.count source.old ≤ S.count source.new }
     ensures sink_later { K.count sink.old ≤ K.count sink.new }
 {
-    let commands = read_commands(alloc, source)?;
-    answer_all(alloc, &commands, sink)
-}
-
-// The commands of the whole source.
-fn read_commands<S: Source>(alloc: Global, source: &mut S) -> Result<Vec<Command>, Halt>
-    ensures ok { IfOk result (λ commands. IfSome (S.left source.old) (λ input. IsAtEnd (S.left source.new) × IsScript input commands.items)) }
-    ensures one_length { IfOk result (λ commands. AreEqual (map places_in commands.items)) }
-    ensures halt { IfErr result (HaltsReading (S.left source.old)) }
-    ensures small { IfErr result HasSmallLine }
-    ensures taken { TakesAtMost (2 ^ 28 + 1) (S.left source.old) (S.left source.new) }
-    ensures read { IfErr result (λ halt. halt ≡ Halt.Read → Rose (S.count source.old) (S.count source.new)) }
-    ensures later { S.count source.old ≤ S.count source.new }
-{
-    let bytes = match read_whole(alloc, source) {
-        Ok(bytes) => bytes,
-        Err(Outage::Memory) => return Err(Halt::Memory),
-        Err(Outage::Failed) => return Err(Halt::Read),
+    let commands = match read_commands(alloc, source) {
+        Ok(commands) => commands,
+        Err(ReadRefusal::Memory) => return End::Memory,
+        Err(ReadRefusal::Failed) => return End::Read,
+        Err(ReadRefusal::Line(line)) => return End::Line(line),
     };
-    match read_script(alloc, &bytes) {
-        Ok(commands) => Ok(commands),
-        Err(ScriptFault::Memory) => Err(Halt::Memory),
-        Err(ScriptFault::Line(line)) => Err(Halt::Line(line)),
+    match answer_all(alloc, &commands, sink) {
+        Ok(()) => End::Done,
+        Err(Outage::Memory) => End::Memory,
+        Err(Outage::Failed) => End::Write,
     }
 }
 
+// The commands of the whole source.
+fn read_commands<S: Source>(alloc: Global, source: &mut S) -> Result<Vec<Command>, ReadRefusal>
+    ensures ok { IfOk result (λ commands. IfSome (S.left source.old) (λ input.
+        IsAtEnd (S.left source.new) × IsScript input commands.items)) }
+    ensures one_length { IfOk result (λ commands. AreEqual (map places_in commands.items)) }
+    ensures refused { IfErr result (IsSourceRefusal (S.left source.old)) }
+    ensures read { IfErr result (λ why. why ≡ refusal.Failed → Rose (S.count source.old) (S.count source.new)) }
+    ensures taken { TakesAtMost (2 ^ 28 + 1) (S.left source.old) (S.left source.new) }
+    ensures later { S.count source.old ≤ S.count source.new }
+{
+    let bytes = read_whole(alloc, source)?;
+    read_script(alloc, &bytes)
+}
+
 // The replies to all commands, gathered to large pieces.
-fn answer_all<K: Sink>(alloc: Global, commands: &[Command], sink: &mut K) -> Result<(), Halt>
+fn answer_all<K: Sink>(alloc: Global, commands: &[Command], sink: &mut K) -> Result<(), Outage>
     requires { AreEqual (map places_in commands.now) }
     ensures ok { OnOk result (Appends (K.held sink.old) (K.held sink.new) (replies_of commands.now)) }
     ensures err { OnErr result (AppendsFront (K.held sink.old) (K.held sink.new) (replies_of commands.now)) }
-    ensures halt { IfErr result HaltsWriting }
-    ensures write { IfErr result (λ halt. halt ≡ Halt.Write → Rose (K.count sink.old) (K.count sink.new)) }
-    ensures later { K.count sink.old ≤ K.count sink.new }
+    ensures cause { HasCause (K.count sink.old) (K.count sink.new) result }
 {
     let mut gathered = Vec::new(alloc);
     for i in 0..commands.len() {
@@ -119,23 +94,16 @@ fn answer(
 }
 
 // Writes what is gathered, where it has so many bytes.
-fn flush<K: Sink>(sink: &mut K, gathered: &mut Vec<u8>, least: usize) -> Result<(), Halt>
+fn flush<K: Sink>(sink: &mut K, gathered: &mut Vec<u8>, least: usize) -> Result<(), Outage>
     ensures ok { OnOk result (MovesFront (K.held sink.old) (K.held sink.new) gathered.old.items gathered.new.items) }
     ensures all { OnOk result (least ≤ length gathered.old.items → gathered.new.items ≡ []) }
     ensures err { OnErr result (AppendsFront (K.held sink.old) (K.held sink.new) gathered.old.items) }
-    ensures halt { IfErr result HaltsWriting }
-    ensures write { IfErr result (λ halt. halt ≡ Halt.Write → Rose (K.count sink.old) (K.count sink.new)) }
-    ensures later { K.count sink.old ≤ K.count sink.new }
+    ensures cause { HasCause (K.count sink.old) (K.count sink.new) result }
 {
     if gathered.len() < least {
         return Ok(());
     }
-    match write_whole(sink, gathered) {
-        Ok(()) => {
-            gathered.clear();
-            Ok(())
-        }
-        Err(Outage::Memory) => Err(Halt::Memory),
-        Err(Outage::Failed) => Err(Halt::Write),
-    }
+    write_whole(sink, gathered)?;
+    gathered.clear();
+    Ok(())
 }

@@ -2,22 +2,19 @@
 #![tactic(auto)]
 
 mod command;
-mod cuts;
+mod end;
 mod exact;
-mod fault;
 mod laws;
 mod line;
-mod numbers;
-mod outcome;
+mod refusal;
 mod replies;
 mod script;
 mod streams;
 #[cfg(test)]
 mod tests;
 mod top;
-mod words;
 
-use std::alloc::Global;
+use end::End;
 use std::io;
 use std::process::ExitCode;
 use top::run_alone;
@@ -26,46 +23,39 @@ use vec_outside::{FileSink, FileSource, MemDisks};
 fn main(rt: HostRuntime) -> ExitCode {
     let words = match words_of(&rt) {
         Ok(words) => words,
-        Err(status) => return report(&rt, status, 0),
+        Err(end) => return ended(&rt, end),
     };
+    // `exact` makes no call of the disks: empty ones in memory stand in for the files.
     let disks = match MemDisks::empty(rt.alloc()) {
         Ok(disks) => disks,
-        Err(_) => return report(&rt, 1, 0),
+        Err(_) => return ended(&rt, End::Memory),
     };
     let mut source = FileSource::make(&rt);
     let mut sink = FileSink::make(&rt);
     let outcome = run_alone(&rt, rt.alloc(), &words, &mut source, &mut sink, disks);
-    report(&rt, outcome.status, outcome.line)
+    ended(&rt, End::from_status(outcome.status, outcome.line))
 }
 
 // The words behind the program's name. Words that are no text are refused.
-fn words_of(rt: &HostRuntime) -> Result<Vec<String>, u8> {
+fn words_of(rt: &HostRuntime) -> Result<Vec<String>, End> {
     let all = match std::env::args(rt) {
         Ok(all) => all,
-        Err(e) => return Err(if e.kind() == io::ErrorKind::OutOfMemory {
-            1
-        } else {
-            2
-        }),
+        Err(e) if e.kind() == io::ErrorKind::OutOfMemory => return Err(End::Memory),
+        Err(_) => return Err(End::Words),
     };
     let mut words = Vec::new(rt.alloc());
     for word in all.skip(1) {
         if words.push(word).is_err() {
-            return Err(1);
+            return Err(End::Memory);
         }
     }
     Ok(words)
 }
 
-// Prints the status line of a status but 0, and ends with the status.
-fn report(rt: &HostRuntime, status: u8, line: u64) -> ExitCode {
-    let _ = match status {
-        0 => Ok(()),
-        1 => eprintln!(rt; "vec_run: out of memory"),
-        2 => eprintln!(rt; "vec_run: words refused"),
-        3 => eprintln!(rt; "vec_run: line {line} refused"),
-        4 => eprintln!(rt; "vec_run: read fault"),
-        _ => eprintln!(rt; "vec_run: write fault"),
-    };
-    ExitCode::from(status)
+// Prints what a run ended with, unless all was done, and ends with its status.
+fn ended(rt: &HostRuntime, end: End) -> ExitCode {
+    if end != End::Done {
+        let _ = eprintln!(rt; "vec_run: {end}");
+    }
+    ExitCode::from(end.status())
 }

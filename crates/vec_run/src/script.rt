@@ -1,12 +1,13 @@
 // A script, line by line.
 ghost use Rattle.std.specs.Prelude.{ℕ, ◌≡◌, ◌+◌, ◌^◌, ◌≤◌, ◌<◌, ◌∷◌, ◌++◌, List, Option, [], length, take, drop, IsTrue, MatchResult, map, ◌↔◌};
 ghost use Rattle.vec_run.specs.Lines.{lines_of, closed_part};
-ghost use Rattle.vec_run.specs.Grammar.{IsScript, IsScriptFault, IsFormFault, IsTextFault, FitsAfter, Reads, places_in};
+ghost use Rattle.vec_run.specs.Grammar.{IsForm, IsScript, FitsAfter, Reads, places_in};
+ghost use Rattle.vec_run.specs.Refusals.{IsAtLine, IsFormRefusal, IsScriptRefusal};
+ghost use Rattle.vec_run.specs.declared.command.Command.{Command};
 
 use crate::command::Command;
-use crate::cuts::find_byte;
-use crate::fault::{LineFault, ScriptFault};
-use crate::line::read_line;
+use crate::line::{find_byte, read_line};
+use crate::refusal::ReadRefusal;
 use memchr::memrchr;
 use std::alloc::Global;
 
@@ -14,8 +15,8 @@ use std::alloc::Global;
 pub const MOST_BYTES: usize = 1 << 28;
 
 /// Reads a script: its commands, without the lines that are skipped.
-pub fn read_script(alloc: Global, bytes: &[u8]) -> Result<Vec<Command>, ScriptFault>
-    ensures { MatchResult result (λ commands. IsScript bytes.now commands.items) (IsScriptFault bytes.now) }
+pub fn read_script(alloc: Global, bytes: &[u8]) -> Result<Vec<Command>, ReadRefusal>
+    ensures { MatchResult result (λ commands. IsScript bytes.now commands.items) (IsScriptRefusal bytes.now) }
 {
     if bytes.len() <= MOST_BYTES {
         let form = read_form(alloc, bytes)?;
@@ -23,7 +24,7 @@ pub fn read_script(alloc: Global, bytes: &[u8]) -> Result<Vec<Command>, ScriptFa
     }
     // The line that holds the byte past the greatest length is outside; the lines before it are looked at first.
     let form = read_form(alloc, closed_front(&bytes[..MOST_BYTES]))?;
-    Err(ScriptFault::Line(form.lines))
+    Err(ReadRefusal::Line(form.next))
 }
 
 // The text up to its last line feed, and with it.
@@ -36,20 +37,20 @@ fn closed_front(text: &[u8]) -> &[u8]
     }
 }
 
-/// The commands of lines that are all of the form, and how many lines there were.
+/// The commands of lines that are all of the form, and the number of the line behind them, from 1.
 #[derive(Drop)]
 struct Form {
     commands: Vec<Command>,
-    lines: u64,
+    next: u64,
 }
 
-fn read_form(alloc: Global, bytes: &[u8]) -> Result<Form, ScriptFault>
+fn read_form(alloc: Global, bytes: &[u8]) -> Result<Form, ReadRefusal>
     requires { length bytes.now ≤ 2 ^ 28 }
-    ensures { MatchResult result (λ form. Reads (lines_of bytes.now) form.commands.items form.lines) (IsFormFault (lines_of bytes.now)) }
+    ensures { MatchResult result (λ form. Reads (lines_of bytes.now) form.commands.items form.next) (IsFormRefusal (lines_of bytes.now)) }
 {
     let mut form = Form {
         commands: Vec::new(alloc),
-        lines: 0,
+        next: 1,
     };
     let mut rest = bytes;
     while !rest.is_empty() {
@@ -61,27 +62,24 @@ fn read_form(alloc: Global, bytes: &[u8]) -> Result<Form, ScriptFault>
 }
 
 // Goes on with one line.
-fn take_line(alloc: Global, form: &mut Form, text: &[u8]) -> Result<(), ScriptFault>
-    requires { form.old.lines < 2 ^ 28 }
-    ensures { (texts : List (List ℕ)) → Reads texts form.old.commands.items form.old.lines
-        → MatchResult result (λ _. Reads (texts ++ text.now ∷ []) form.new.commands.items form.new.lines) (IsTextFault texts text.now) }
+fn take_line(alloc: Global, form: &mut Form, text: &[u8]) -> Result<(), ReadRefusal>
+    requires { form.old.next ≤ 2 ^ 28 }
+    ensures { (texts : List (List ℕ)) → Reads texts form.old.commands.items form.old.next
+        → MatchResult result (λ _. Reads (texts ++ text.now ∷ []) form.new.commands.items form.new.next)
+        (IsAtLine (length texts + 1) ((others : List (Option Command)) → ¬ IsForm (texts ++ text.now ∷ []) others)) }
 {
-    match read_line(alloc, text) {
-        Ok(None) => {
-            form.lines += 1;
-            Ok(())
-        }
-        Ok(Some(command)) => {
+    let number = form.next;
+    match read_line(alloc, number, text)? {
+        Some(command) => {
             if !fits(&form.commands, &command) {
-                return Err(ScriptFault::Line(form.lines));
+                return Err(ReadRefusal::Line(number));
             }
             form.commands.push(command)?;
-            form.lines += 1;
-            Ok(())
         }
-        Err(LineFault::Memory) => Err(ScriptFault::Memory),
-        Err(LineFault::Outside) => Err(ScriptFault::Line(form.lines)),
+        None => {}
     }
+    form.next = number + 1;
+    Ok(())
 }
 
 // Whether a command's value has the length of the first one.

@@ -1,9 +1,9 @@
-use crate::outcome::Outcome;
-use crate::top::run_alone;
+use crate::end::End;
+use crate::top::{Outcome, run_alone};
 use std::alloc::{AllocError, Global};
 use std::test::Fail;
 use std::thread::Threads;
-use vec_outside::{MemDisks, MemSink, MemSource, Outage, Sink};
+use vec_outside::{Disks, MemDisks, MemSink, MemSource, Outage, Sink};
 
 // What a run of these words on this script ended with and wrote, where these calls fail.
 fn ran<R: Threads + Sync>(
@@ -194,15 +194,32 @@ fn a_byte_at_a_time(rt: HostRuntime) -> Result<(), Fail> {
         bytes: Vec::new(alloc),
     };
     let words = words_of(alloc, "exact")?;
-    let outcome: Outcome<MemDisks> = run_alone(
-        &rt,
-        alloc,
-        &words,
-        &mut source,
-        &mut sink,
-        MemDisks::empty(alloc)?,
-    );
+    // Every call of the disks would fail, and none is made.
+    let mut disks = MemDisks::empty(alloc)?;
+    disks.stop_after(0);
+    let outcome: Outcome<MemDisks> = run_alone(&rt, alloc, &words, &mut source, &mut sink, disks);
     assert_eq!(rt; outcome.status, 0);
+    assert_eq!(rt; outcome.disks.faults(), 0);
     assert_eq!(rt; sink.bytes.as_slice(), FOUR_REPLIES);
+    Ok(())
+}
+
+const ENDS: [(End, u8, u64, &str); 6] = [
+    (End::Done, 0, 0, "done"),
+    (End::Memory, 1, 0, "out of memory"),
+    (End::Words, 2, 0, "words refused"),
+    (End::Line(12), 3, 12, "line 12 refused"),
+    (End::Read, 4, 0, "read fault"),
+    (End::Write, 5, 0, "write fault"),
+];
+
+#[test]
+fn ends_and_their_texts(rt: HostRuntime) -> Result<(), Fail> {
+    for (end, status, line, text) in ENDS {
+        assert_eq!(rt; end.status(), status);
+        assert_eq!(rt; end.line(), line);
+        assert_eq!(rt; end.to_string(rt.alloc())?.as_str(), text);
+    }
+    assert_eq!(rt; End::from_status(3, 12), End::Line(12));
     Ok(())
 }

@@ -29,7 +29,7 @@ loop-i-preserved g c =
           (replies_after (take (c.loop-i.i + 1) c.args.commands.now) (drop (c.loop-i.i + 1) c.args.commands.now)) (replies_of c.args.commands.now)
           (replies_gathered c.args.commands.now c.loop-i.i c.loop-i.invariant.written c.loop-i.gathered.items c.answer.new.gathered.items c.loop-i-test.true c.loop-i.invariant.parts c.in_ok-answer.ensures)
           moved.parts;
-      later = omega (arith, c.loop-i.invariant.later, c.flush.ensures.later);
+      later = omega (arith, c.loop-i.invariant.later, c.flush.ensures.cause.later);
     }
 
 pub returns-clause-err : goal.returns-clause-err

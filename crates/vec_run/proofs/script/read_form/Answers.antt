@@ -14,7 +14,7 @@ loop-rest-init c = record {
 
 pub loop-rest-preserved : goal.loop-rest-preserved
 loop-rest-preserved c =
-    let more : Reads (c.loop-rest.invariant.texts ++ c.first_line.result.0.now ∷ []) c.take_line.new.form.commands.items c.take_line.new.form.lines =
+    let more : Reads (c.loop-rest.invariant.texts ++ c.first_line.result.0.now ∷ []) c.take_line.new.form.commands.items c.take_line.new.form.next =
     c.in_ok-take_line.ensures c.loop-rest.invariant.texts c.loop-rest.invariant.reads in
     record {
       texts = c.loop-rest.invariant.texts ++ c.first_line.result.0.now ∷ [];
@@ -28,10 +28,10 @@ loop-rest-preserved c =
 pub returns-in_err-take_line : goal.returns-in_err-take_line
 returns-in_err-take_line c =
     let p = err_from_is_err_and c.from_residual.result c.from_residual.ensures.1 in
-    rw (p.1, p.2) (breaks c.args.bytes.now c.first_line.result.1.now c.loop-rest.invariant.texts c.first_line.result.0.now c.loop-rest.form.commands.items c.loop-rest.form.lines
+    rw (p.1, p.2) (breaks c.args.bytes.now c.first_line.result.1.now c.loop-rest.invariant.texts c.first_line.result.0.now c.loop-rest.form.commands.items c.loop-rest.form.next
     c.in_err-take_line.field-0.0 c.loop-rest.invariant.reads
     (goes_on c.args.bytes.now c.loop-rest.rest.now c.first_line.result.1.now c.loop-rest.invariant.texts c.first_line.result.0.now c.loop-rest.invariant.parts c.first_line.ensures.lines)
     (c.in_err-take_line.ensures c.loop-rest.invariant.texts c.loop-rest.invariant.reads))
 
 pub returns : goal.returns
-returns c = ends c.args.bytes.now c.loop-rest.rest.now c.loop-rest.invariant.texts c.loop-rest.form.commands.items c.loop-rest.form.lines c.loop-rest.invariant.reads c.loop-rest.invariant.parts (search rules)
+returns c = ends c.args.bytes.now c.loop-rest.rest.now c.loop-rest.invariant.texts c.loop-rest.form.commands.items c.loop-rest.form.next c.loop-rest.invariant.reads c.loop-rest.invariant.parts (search rules)

@@ -7,9 +7,9 @@ use Rattle.vec_run.proofs.script.read_form.Given as goal
 abbrev pub invariant-loop-rest : goal.invariant-loop-rest
 invariant-loop-rest l = record {
   texts : List (List ℕ);
-  reads : Reads texts l.form.commands.items l.form.lines;
+  reads : Reads texts l.form.commands.items l.form.next;
   parts : lines_of l.bytes ≡ texts ++ lines_of l.rest;
-  few : l.form.lines + length l.rest ≤ length l.bytes;
+  few : l.form.next + length l.rest ≤ length l.bytes + 1;
 }
 
 abbrev pub decreases-loop-rest : goal.decreases-loop-rest

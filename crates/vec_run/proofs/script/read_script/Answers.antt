@@ -2,7 +2,7 @@ use Rattle.std.proofs.Common.{◌≡◌, ap, sym, List, ℕ, length, take, arith
 use Rattle.std.proofs.lemmas.List.{length-take-le}
 use Rattle.vec_run.specs.Lines.{closed_part}
 use Rattle.vec_run.proofs.LineCuts.{closed_short}
-use Rattle.vec_run.proofs.Forms.{past_fault}
+use Rattle.vec_run.proofs.Forms.{past_refused}
 use Rattle.vec_run.proofs.script.read_script.Goals as goal
 
 pub slice_bounds-closed_front-end : goal.slice_bounds-closed_front-end
@@ -15,4 +15,4 @@ read_form-requires-2 c =
     omega (arith, size, same, closed_short (take 268435456 c.args.bytes.now))
 
 pub returns : goal.returns
-returns c = past_fault c.args.bytes.now c.closed_front.result.now c.in_ok-form-2.form.commands.items c.in_ok-form-2.form.lines (omega arith) c.closed_front.ensures c.in_ok-form-2.ensures
+returns c = past_refused c.args.bytes.now c.closed_front.result.now c.in_ok-form-2.form.commands.items c.in_ok-form-2.form.next (omega arith) c.closed_front.ensures c.in_ok-form-2.ensures

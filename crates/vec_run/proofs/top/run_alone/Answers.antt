@@ -1,17 +1,23 @@
-use Rattle.std.proofs.Common.{inl, inr, ap, ℕ, arith}
-use Rattle.vec_run.proofs.Forms.{source_not_refused}
+use Rattle.vec_run.specs.declared.top.Verb.TheVariants.{Exact}
+use Rattle.vec_run.proofs.Ending.{completed, refused}
 use Rattle.vec_run.proofs.top.run_alone.Goals as goal
-use Rattle.vec_run.proofs.top.run_alone.Goals.{in-Ok, in-Err-Memory, in-Err-Line, in-Err-Read, in-Err-Write}
-
-pub overflow_add-status : goal.overflow_add-status
-overflow_add-status g c = let small = rw c.in-Err-Line.field-0-is at c.in-Err-Line.ensures.small in omega (arith, small)
+use Rattle.vec_run.proofs.top.run_alone.Goals.{in-Some-Exact, in-None}
 
 pub returns-clause-complete : goal.returns-clause-complete
 returns-clause-complete g c exact input commands told script no_read_fault no_write_fault =
-    elim c.match-run_exact.branch [
-      | in-Ok w ↦ inl (ap (λ (p : ℕ × ℕ). p.0) w.status-is)
-      | in-Err-Memory w ↦ inr (ap (λ (p : ℕ × ℕ). p.0) w.status-is)
-      | in-Err-Line w ↦ absurd (source_not_refused (g.S.Source.left c.args.source.now) input commands w.in-Err-Line.line told script (rw w.in-Err-Line.field-0-is at w.in-Err-Line.ensures.halt))
-      | in-Err-Read w ↦ absurd (no_read_fault (w.in-Err-Read.ensures.read w.in-Err-Read.field-0-is))
-      | in-Err-Write w ↦ absurd (no_write_fault (w.in-Err-Write.ensures.write w.in-Err-Write.field-0-is))
+    elim c.match-verb_of.branch [
+      | in-Some-Exact w ↦ rw (c.status.ensures, w.end-is) (completed (g.S.Source.left c.args.source.now) (g.S.Source.left w.run_exact-end.new.source) (g.K.Sink.held c.args.sink.now) (g.K.Sink.held w.run_exact-end.new.sink)
+          input commands w.run_exact-end.result told script w.run_exact-end.ensures.end
+          (λ is. no_read_fault (rw w.source-is (w.run_exact-end.ensures.read is)))
+          (λ is. no_write_fault (rw w.sink-is (w.run_exact-end.ensures.write is))))
+      | in-None w ↦ absurd (w.in-None.ensures Exact exact)
+    ]
+
+pub returns-clause-refused : goal.returns-clause-refused
+returns-clause-refused g c exact input line told outside no_read_fault =
+    elim c.match-verb_of.branch [
+      | in-Some-Exact w ↦ rw (c.status.ensures, w.end-is) (refused (g.S.Source.left c.args.source.now) (g.S.Source.left w.run_exact-end.new.source) (g.K.Sink.held c.args.sink.now) (g.K.Sink.held w.run_exact-end.new.sink)
+          input line w.run_exact-end.result told outside w.run_exact-end.ensures.end
+          (λ is. no_read_fault (rw w.source-is (w.run_exact-end.ensures.read is))))
+      | in-None w ↦ absurd (w.in-None.ensures Exact exact)
     ]

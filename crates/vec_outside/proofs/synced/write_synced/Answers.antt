@@ -3,7 +3,7 @@ use Rattle.vec_outside.specs.Disk.{Image, IsImage, IsDurable, LeavesOnly, splice
 use Rattle.std.proofs.lemmas.Result.{on_ok_weaker}
 use Rattle.vec_outside.proofs.Moments.{torn_none, started, goes_on}
 use Rattle.vec_outside.specs.Disk.{IsTornImage}
-use Rattle.vec_outside.proofs.steps.write_synced.Goals as goal
+use Rattle.vec_outside.proofs.synced.write_synced.Goals as goal
 
 pub returns-in_err-write_at-clause-moments : goal.returns-in_err-write_at-clause-moments
 returns-in_err-write_at-clause-moments g c =

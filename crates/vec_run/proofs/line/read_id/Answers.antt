@@ -1,6 +1,6 @@
 use Rattle.std.proofs.Common.{arith, ◌+◌, sym, ◌∙◌}
 use Rattle.vec_run.proofs.Spelling.{no_id_without_slash, id_parts, id_block, id_off, id_from, rest_of}
-use Rattle.vec_run.proofs.numbers.read_id.Goals as goal
+use Rattle.vec_run.proofs.line.read_id.Goals as goal
 
 pub returns-in-None : goal.returns-in-None
 returns-in-None c id is = no_id_without_slash c.args.word.now id c.in-None.ensures is

@@ -2,7 +2,7 @@ use Rattle.std.proofs.Common.{◌∙◌, ap, List, ℕ}
 use Rattle.std.specs.Prelude.{nat_eq, codes}
 use Rattle.std.specs.Cmp.Lexicographic.{pointwise}
 use Rattle.vec_run.proofs.Spelling.{one_word}
-use Rattle.vec_run.proofs.words.are_exact.Goals as goal
+use Rattle.vec_run.proofs.top.are_exact.Goals as goal
 
 pub returns-then-words-eq1 : goal.returns-then-words-eq1
 returns-then-words-eq1 c =

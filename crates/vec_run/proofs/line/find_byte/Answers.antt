@@ -1,5 +1,5 @@
 use Rattle.vec_run.proofs.Cutting.{cut_answer}
-use Rattle.vec_run.proofs.cuts.find_byte.Goals as goal
+use Rattle.vec_run.proofs.line.find_byte.Goals as goal
 
 pub returns : goal.returns
 returns c = cut_answer c.args.byte c.args.text.now c.memchr.result c.memchr.ensures

@@ -4,7 +4,7 @@ use Rattle.std.specs.Str.{IsUtf8}
 use Rattle.std.proofs.lemmas.Fmt.{IsAscii-decimal, parse-decimal}
 use Rattle.std.proofs.lemmas.Str.{IsUtf8-from_ascii}
 use Rattle.vec_run.proofs.Spelling.{same_text}
-use Rattle.vec_run.proofs.numbers.read_number.Goals as goal
+use Rattle.vec_run.proofs.line.read_number.Goals as goal
 
 -- a decimal number is a text
 pub returns-in-Err : goal.returns-in-Err
