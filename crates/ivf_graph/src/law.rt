@@ -15,6 +15,7 @@ ghost use Rattle.ivf_graph.specs.Effect.{effect, after, AreRowsChanged};
 ghost use Rattle.ivf_graph.specs.Legal.{IsAllowed, IsLegal};
 
 use crate::graph::IvfGraph;
+use index_sizes::{MOST_BITS, MOST_BLOCKS};
 use vec_history::Act;
 
 /// A law, and no work. Each act of a legal history is allowed after the acts before it, so what is cut off
@@ -62,9 +63,9 @@ pub fn law_answer(index: &IvfGraph)
 /// the chains, answers as the state does; and there is such a search.
 pub fn law_reads(index: &IvfGraph)
     requires { AreBlocksApart index.now }
-    ensures one { (reads probes : ℕ) (query : List Bool) (answer : List Hit) → length query ≤ 64000
+    ensures one { (reads probes : ℕ) (query : List Bool) (answer : List Hit) → length query ≤ MOST_BITS
         → IsAnswerFrom (replicate reads index.now) (length index.now.lists) query probes answer → answer ≡ ivf_answer index.now query probes }
-    ensures some { (probes : ℕ) (query : List Bool) → length query ≤ 64000
+    ensures some { (probes : ℕ) (query : List Bool) → length query ≤ MOST_BITS
         → (reads : ℕ) × IsAnswerFrom (replicate reads index.now) (length index.now.lists) query probes (ivf_answer index.now query probes) }
 {}
 
@@ -79,9 +80,9 @@ pub fn law_examples()
     ensures before_it { IsAnswerAt worked_index worked_acts (0 ∷ 0 ∷ []) (four false true true true) 1 ((unequal_by 1, row_3) ∷ (unequal_by 2, row_4) ∷ []) }
     ensures behind_it { IsAnswerAt worked_index worked_acts (0 ∷ 1 ∷ []) (four false true true true) 1
         ((unequal_by 1, row_3) ∷ (unequal_by 1, row_5) ∷ (unequal_by 2, row_4) ∷ []) }
-    ensures pages { (centre_pages 4 3 ≡ 1) × (centre_pages 64000 32768 ≡ 32768) }
+    ensures pages { (centre_pages 4 3 ≡ 1) × (centre_pages MOST_BITS MOST_BLOCKS ≡ MOST_BLOCKS) }
 
     // A row of 64,000 places takes 8,020 of a page's 8,160 bytes, so one page has one of them.
-    ensures long_row { row_need 64000 ≡ 8020 }
+    ensures long_row { row_need MOST_BITS ≡ 8020 }
     ensures short_row { row_need 4 ≡ 28 }
 {}
