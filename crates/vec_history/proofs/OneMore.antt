@@ -3,7 +3,7 @@ use Rattle.std.proofs.Common.{◌≡◌, ◌≢◌, ◌⊎◌, inl, inr, cond, z
 use Rattle.std.proofs.lemmas.Option.{same_Some, none-some, slice_get_within}
 use Rattle.std.proofs.lemmas.List.{length-append}
 use Rattle.std.proofs.lemmas.List.Sums.{sum_by-append}
-use Rattle.list_values.proofs.Parts.{in_order}
+use Rattle.list_values.proofs.Parts.{in_order, in_part, in_whole}
 use Rattle.vec_history.specs.declared.event.Event.{Event}
 use Rattle.vec_history.specs.declared.event.Event.TheVariants as event
 use Rattle.vec_history.specs.declared.event.Act.{Act}
@@ -13,7 +13,7 @@ use Rattle.vec_history.specs.declared.gate.Hold.{Hold}
 use Rattle.vec_history.specs.declared.gate.Hold.TheVariants.{Alone}
 use Rattle.vec_history.specs.declared.stage.Stage.{Stage}
 use Rattle.vec_history.specs.declared.stage.Stage.TheVariants.{Remove}
-use Rattle.vec_history.specs.Acts.{act_of, IsActAt, NoneAfter}
+use Rattle.vec_history.specs.Acts.{act_of, IsActAt, NoneAfter, NoneFrom}
 use Rattle.vec_history.specs.Gates.{IsOfGate, HoldsSince, Holds}
 use Rattle.vec_history.specs.Phases.{IsOfVacuum, PhaseSince, IsAPhaseStanding, IsBarrier, IsLastBarrier, IsDrop, IsRemoved}
 use Rattle.vec_history.specs.Settling.{is_lasting, lasting_events}
@@ -255,3 +255,23 @@ pub lasting_more : (acts : List Act) (a : Act) → lasting_events (acts ++ a ∷
 lasting_more acts a =
     let f : Act → ℕ = λ b. cond (is_lasting b.event) 1 0 in
     sum_by-append f acts (a ∷ []) ∙ ap (λ (n : ℕ). lasting_events acts + n) (zero-add (f a))
+
+-- ---- many acts more
+
+module _ (acts : List Act) (n : ℕ) (desk : ℕ) where
+  none_kept : (k : ℕ) (P : Act → Type 0) → NoneAfter (take n acts) k P → NoneFrom acts n P → NoneAfter acts k P
+  none_kept k P before behind = λ j a after is p.
+      elim (in_order j n) as (λ _. ⊥) [
+        | inl low ↦ before j a after (in_part n acts j a low is) p
+        | inr (inl same) ↦ behind j a (omega arith) is p
+        | inr (inr high) ↦ behind j a (omega arith) is p
+      ]
+
+  -- a hold lasts up to the desk's own next act of the gate
+  pub hold_kept : (gate : Gate) (hold : Hold) (k : ℕ) → NoneFrom acts n (λ a. (a.desk ≡ desk) × IsOfGate gate a.event)
+      → HoldsSince (take n acts) desk gate hold k → HoldsSince acts desk gate hold k
+  hold_kept gate hold k none s = record { taken = in_whole n acts k _ s.taken; kept = none_kept k _ s.kept none }
+
+  -- a phase lasts up to the next act that begins one or ends a vacuum
+  pub phase_kept : (stage : Stage) (k : ℕ) → NoneFrom acts n (λ a. IsOfVacuum a.event) → PhaseSince (take n acts) desk stage k → PhaseSince acts desk stage k
+  phase_kept stage k none s = record { begun = in_whole n acts k _ s.begun; stands = none_kept k _ s.stands none }

@@ -9,7 +9,7 @@ ghost use Rattle.vec_history.specs.declared.gate.Hold.{Hold as Holding};
 ghost use Rattle.vec_history.specs.declared.gate.Hold.TheVariants.{Alone};
 ghost use Rattle.vec_history.specs.declared.stage.Stage.{Stage as Stages};
 ghost use Rattle.vec_history.specs.declared.stage.Stage.TheVariants.{Remove};
-ghost use Rattle.vec_history.specs.Acts.{act_of, IsActAt, NoneAfter};
+ghost use Rattle.vec_history.specs.Acts.{act_of, IsActAt, NoneAfter, NoneFrom};
 ghost use Rattle.vec_history.specs.Gates.{IsOfGate, HoldsAs, HoldsSince, Holds};
 ghost use Rattle.vec_history.specs.Phases.{IsOfVacuum, IsDrop, PhaseSince, IsAPhaseStanding, IsBarrier, IsRemoved};
 ghost use Rattle.vec_history.specs.Settling.{is_lasting, lasting_events};
@@ -76,4 +76,13 @@ pub fn law_one_more(acts: &[Act], act: &Act)
     ensures dropped { (desk position : ℕ) → IsDrop act.now.event → IsRemoved (acts.now ++ act.now ∷ []) desk position → ⊥ }
     ensures restarted { (desk position : ℕ) → IsOfVacuum act.now.event → IsRemoved (acts.now ++ act.now ∷ []) desk position → ⊥ }
     ensures lasting { lasting_events (acts.now ++ act.now ∷ []) ≡ lasting_events acts.now + (if is_lasting act.now.event then 1 else 0) }
+{}
+
+/// What the first acts of a history said lasts: a hold up to the desk's own next act of the gate, whatever else the
+/// desk and others do; a phase up to the next act that begins one or ends a vacuum.
+pub fn law_kept(acts: &[Act])
+    ensures hold { (n desk k : ℕ) (gate : Gates) (hold : Holding) → NoneFrom acts.now n (λ a. (a.desk ≡ desk) × IsOfGate gate a.event)
+        → HoldsSince (take n acts.now) desk gate hold k → HoldsSince acts.now desk gate hold k }
+    ensures phase { (n desk k : ℕ) (stage : Stages) → NoneFrom acts.now n (λ a. IsOfVacuum a.event)
+        → PhaseSince (take n acts.now) desk stage k → PhaseSince acts.now desk stage k }
 {}

@@ -23,7 +23,7 @@ pub use event::{Act, Event};
 pub use fault::AuditFault;
 pub use gate::{Gate, Hold};
 pub use gates::{hold_of, holds, holds_alone, may_take};
-pub use law::{law_alone, law_cut, law_one_at_a_time, law_one_more};
+pub use law::{law_alone, law_cut, law_kept, law_one_at_a_time, law_one_more};
 pub use phases::{is_in_phase, last_barrier, may_begin_remove, may_give_back, phase, removal_end};
 pub use rules::Rules;
 pub use settling::{count_lasting, is_lasting, may_fault, may_settle};

@@ -8,6 +8,7 @@ use vec_names::Tid;
 fn laws_before_any_act() {
     let acts: [Act; 0] = [];
     law_one_at_a_time(&acts);
+    law_kept(&acts);
     law_one_more(&acts, &act(1, Event::VacuumEnd));
 }
 
