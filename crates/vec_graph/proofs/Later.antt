@@ -21,15 +21,16 @@ use Rattle.vec_graph.specs.declared.node.Node.{Node}
 use Rattle.vec_graph.specs.declared.graph.Graph.{Graph}
 use Rattle.vec_graph.specs.Graph.{node_at, IsLive, IsLiveAt, IsDoomed, IsDoomedAt, IsMember}
 use Rattle.vec_graph.specs.Places.{IsOnBlocks}
-use Rattle.vec_graph.specs.Effect.{effect, after, changed, joined, linked, relisted, dropped, marked}
+use Rattle.vec_graph.specs.Effect.{effect, after, state_after, changed, joined, linked, relisted, dropped, marked}
 use Rattle.vec_graph.specs.Rules.{IsEventAllowed, IsPhaseAllowed, IsVacuumEndAllowed, IsCancelAllowed, IsDropAllowed, IsMarkAllowed, IsEntryAllowed, IsEntryAtAllowed, IsNoEntryAllowed, IsHintAllowed, IsThere}
 use Rattle.vec_history.specs.Legal.{IsLegalAfter}
 use Rattle.vec_graph.specs.Legal.{IsAllowed, IsLegal}
-use Rattle.vec_graph.specs.Asking.{StandsSo, KnowsEach, IsPutAsked, IsLinkAsked, IsRelistAsked, IsAsked}
+use Rattle.vec_graph.specs.Asking.{StandsSo, IsPutAsked, IsLinkAsked, IsRelistAsked, IsAsked}
 use Rattle.vec_history.proofs.Prefixes.{cut_after, each_after, more_after, rest_after}
 use Rattle.vec_graph.proofs.Placing.{free_place, same_list, on_effect}
-use Rattle.vec_graph.proofs.Levels.{after_append, on_along}
-use Rattle.vec_graph.proofs.Further.{in_longer, in_one_more, holds_on, holds_as_on, holds_back, phase_on, phase_back, removed_on, repaired_on, knows_on}
+use Rattle.vec_graph.proofs.Levels.{after_append}
+use Rattle.vec_history.proofs.OneMore.{in_longer, in_one_more, phase_on}
+use Rattle.vec_graph.proofs.Further.{holds_on, holds_as_on, holds_back, phase_back, removed_on, repaired_on, knows_on}
 use Rattle.vec_graph.proofs.Remaining.{Has, has_inserted, had_before, has_changed, had_changed, blocks_changed}
 
 not_empty : {X : Type 0} (xs : List X) (x : X) → xs ++ x ∷ [] ≡ [] → ⊥
@@ -97,7 +98,7 @@ module _ (base : Graph) (acts : List Act) (legal : IsLegal base acts) (on : IsOn
   no_drop (DiskFaulted count) ok stage p is = is
 
   pub in_phase_on : (stage : Stage) → IsInPhase acts desk stage → IsInPhase (acts ++ a ∷ []) desk stage
-  in_phase_on stage p = (p.0, phase_on acts a desk other stage p.0 (no_vacuum a.event may stage p) p.1)
+  in_phase_on stage p = (p.0, phase_on acts a desk stage p.0 (no_vacuum a.event may stage p) p.1)
 
   -- ---- nodes
 
@@ -489,9 +490,9 @@ in_rest (suc n) (y ∷ ys) k x is =
     let same : suc (n + k) ≡ suc n + k = omega arith in
     subst (λ (i : ℕ). slice_get (y ∷ ys) i ≡ Some x) same (in_rest n ys k x is)
 
-pub later : (base : Graph) (acts : List Act) → IsLegal base acts → IsOnBlocks base → (n desk : ℕ) (e : Event)
+pub later : (base : Graph) (acts : List Act) → IsLegal base acts → (n desk : ℕ) (e : Event) → IsOnBlocks (state_after base acts n)
     → ((k : ℕ) (a : Act) → n ≤ k → slice_get acts k ≡ Some a → a.desk ≢ desk) → IsAsked base (take n acts) desk e → IsAsked base acts desk e
-later base acts legal on n desk e others asked =
+later base acts legal n desk e on others asked =
     subst (λ h. IsAsked base h desk e) (take-append-drop n acts)
-    (along base (take n acts) (drop n acts) (cut_after (IsAllowed base) [] acts n legal) (rest_after (IsAllowed base) [] acts n legal) (on_along base (take n acts) on) desk e
+    (along base (take n acts) (drop n acts) (cut_after (IsAllowed base) [] acts n legal) (rest_after (IsAllowed base) [] acts n legal) on desk e
     (λ k a is. others (n + k) a (omega arith) (in_rest n acts k a is)) asked)

@@ -11,3 +11,6 @@ pub mod NodeWords
 pub mod Asked
 pub mod Copies
 pub mod Lent
+pub mod Steps
+pub mod Lasting
+pub mod Shaping

@@ -1,22 +1,22 @@
-//! What the definitions of the graph and of its histories mean: laws, and no work.
+//! What the definitions of the graph and of its histories mean: laws. A function here does no work.
 
 ghost use Rattle.std.specs.Prelude.{◌≡◌, ◌≢◌, ◌⊎◌, ℕ, ◌++◌, ◌∷◌, [], true, false, take, slice_get, Some, None, List, Bool, Option, ◌≤◌, ◌↔◌, length, Contains};
 ghost use Rattle.vec_names.specs.declared.tid.Tid.{Tid as Tids};
 ghost use Rattle.vec_names.specs.Levels.{most_level};
 ghost use Rattle.vec_history.specs.declared.event.Act.{Act};
 ghost use Rattle.vec_history.specs.declared.event.Event.{Event as Events};
-ghost use Rattle.vec_graph.specs.Asking.{IsAsked, IsGranted, IsOfAll};
-ghost use Rattle.vec_history.specs.declared.gate.Gate.{Gate as Gates};
-ghost use Rattle.vec_history.specs.declared.gate.Hold.{Hold as Holding};
-ghost use Rattle.vec_history.specs.declared.gate.Hold.TheVariants.{Alone};
+ghost use Rattle.vec_graph.specs.Asking.{IsAsked, IsGranted, IsOfAll, StandsSo};
 ghost use Rattle.vec_names.specs.declared.heap_id.HeapId.{HeapId as HeapIds};
 ghost use Rattle.vec_graph.specs.declared.graph.Graph.{Graph as Graphs};
 ghost use Rattle.vec_graph.specs.declared.node.Node.{Node};
-ghost use Rattle.vec_graph.specs.Graph.{HasAllSlots, IsLive, IsDoomed, HasLevel, IsMember, layer_slots, slot_layer, entries};
+ghost use Rattle.vec_graph.specs.Graph.{node_at, HasAllSlots, IsLive, IsLiveAt, IsDoomed, IsDoomedAt, HasLevel, IsMember, layer_slots, slot_layer, entries};
 ghost use Rattle.list_values.specs.Masks.{kept};
 ghost use Rattle.index_sizes.specs.Sizes.{next_version};
 ghost use Rattle.vec_graph.specs.Effect.{effect, after, state_after, AreIdsChanged};
-ghost use Rattle.vec_history.specs.Gates.{HoldsAs};
+ghost use Rattle.vec_history.specs.Acts.{NoneFrom};
+ghost use Rattle.vec_history.specs.Phases.{IsDrop};
+ghost use Rattle.vec_graph.specs.Shaped.{IsShaped};
+ghost use Rattle.vec_graph.specs.Lasting.{IsMarkAt, IsIdsEndAt, IsSameAt, HasIdsAt};
 ghost use Rattle.vec_graph.specs.Places.{new_place, element_need, list_need, fits_one_page, IsOnBlocks, IsFree};
 ghost use Rattle.vec_graph.specs.Rules.{IsPutAllowed, IsEventAllowed};
 ghost use Rattle.vec_graph.specs.Legal.{IsAllowed, IsLegal};
@@ -26,29 +26,14 @@ ghost use Rattle.std.specs.FinMap as map;
 use crate::graph::Graph;
 use vec_history::Act;
 
-/// A law, and no work. Each act of a legal history is allowed after the acts before it, so what is cut off
-/// anywhere is legal too; and an act that is allowed makes a longer legal history.
-pub fn law_cut(base: &Graph, acts: &[Act])
-    requires { IsLegal base.now acts.now }
-    ensures cut { (n : ℕ) → IsLegal base.now (take n acts.now) }
-    ensures each { (n : ℕ) (a : Act) → slice_get acts.now n ≡ Some a → IsAllowed base.now (take n acts.now) a }
-    ensures one_more { (a : Act) → IsAllowed base.now acts.now a → IsLegal base.now (acts.now ++ a ∷ []) }
-{}
-
-/// A law, and no work. While a desk holds a gate alone, no other desk holds it.
-pub fn law_alone(base: &Graph, acts: &[Act])
-    requires { IsLegal base.now acts.now }
-    ensures { (gate : Gates) (hold : Holding) (desk other : ℕ) → other ≢ desk → HoldsAs acts.now desk gate Alone → HoldsAs acts.now other gate hold → ⊥ }
-{}
-
-/// A law, and no work. The members of a layer, by the layer of each slot, are those that the layer's part
+/// The members of a layer, by the layer of each slot, are those that the layer's part
 /// of the slots names.
 pub fn law_layers()
     ensures { (m level layer : ℕ) (slots : List (Option Tids)) (to : Tids) → 1 ≤ m → layer ≤ level
         → IsMember m level slots layer to ↔ Contains (layer_slots m level layer slots) (Some to) }
 {}
 
-/// A law, and no work. A node is live, or doomed, or deleted, and not two of these; and one that has
+/// A node is live, or doomed, or deleted, and not two of these; and one that has
 /// ids and is not deleted is live.
 pub fn law_live()
     ensures one { (n : Node) → IsLive n ⊎ (IsDoomed n ⊎ (n.deleted ≡ true)) }
@@ -58,31 +43,57 @@ pub fn law_live()
     ensures with_ids { (n : Node) → n.deleted ≡ false → n.ids ≢ [] → IsLive n }
 {}
 
-/// A law, and no work. After any acts, an act that is allowed and puts no node, joins no id and drops
+/// After any acts, an act that is allowed and puts no node, joins no id and drops
 /// none leaves the entries as they are.
 pub fn law_entries(base: &Graph, acts: &[Act])
     ensures { (a : Act) → IsAllowed base.now acts.now a
         → AreIdsChanged a.event ⊎ (entries (effect 255 a.event (after base.now acts.now)) ≡ entries (after base.now acts.now)) }
 {}
 
-/// A law, and no work. Where the nodes of the base stand on its blocks, they do so after any acts; and a
-/// node is put only where none stands or a deleted one of its level, so it takes no other node's place.
+/// A state whose nodes stand on its blocks keeps them so by any act; and a node is put only where none stands or a
+/// deleted one of its level, so it takes no other node's place.
 pub fn law_places(base: &Graph, acts: &[Act])
-    requires { IsOnBlocks base.now }
-    ensures on_blocks { IsOnBlocks (after base.now acts.now) }
+    requires { IsOnBlocks (after base.now acts.now) }
+    ensures on_blocks { (a : Act) → IsOnBlocks (after base.now (acts.now ++ a ∷ [])) }
     ensures free { (desk version level : ℕ) (at list_at : Tids) (bits : List Bool) (lists : List (Option Tids))
         → IsPutAllowed base.now acts.now desk at list_at version level bits lists → IsFree (after base.now acts.now) at level }
 {}
 
-/// A law, and no work. Where the nodes of the base stand on its blocks, a place at which a node stands at
-/// any position of a legal history has one from then on, and of the same level.
-pub fn law_levels(base: &Graph, acts: &[Act])
-    requires legal { IsLegal base.now acts.now }
-    requires on_blocks { IsOnBlocks base.now }
-    ensures { (n level : ℕ) (at : Tids) → HasLevel (state_after base.now acts.now n) at level → HasLevel (after base.now acts.now) at level }
+/// Of a shaped graph each node stands on its blocks and has all slots of its level; and each act that is allowed
+/// keeps a graph shaped.
+pub fn law_shaped(base: &Graph, acts: &[Act])
+    ensures on_blocks { IsShaped base.now → IsOnBlocks base.now }
+    ensures all_slots { IsShaped base.now → HasAllSlots base.now }
+    ensures kept { IsLegal base.now acts.now → IsShaped base.now → (n : ℕ) → IsShaped (state_after base.now acts.now n) }
 {}
 
-/// A law, and no work. Worked examples of the definitions.
+/// What lasts of a node of a legal history from a position at which nodes stand on their blocks: level and list place
+/// always; version, bits, and that it is not deleted, while the place gets no Mark; the ids, with more behind them, while
+/// it gets no Drop either; that it is doomed while it gets no Mark, and live while there is no Drop.
+pub fn law_lasting(base: &Graph, acts: &[Act])
+    requires { IsLegal base.now acts.now }
+    ensures placed { (p level : ℕ) (at list_at : Tids) → p ≤ length acts.now → IsOnBlocks (state_after base.now acts.now p)
+        → StandsSo (state_after base.now acts.now p) at list_at level → StandsSo (after base.now acts.now) at list_at level }
+    ensures same { (p : ℕ) (at : Tids) (was : Node) → p ≤ length acts.now → IsOnBlocks (state_after base.now acts.now p)
+        → NoneFrom acts.now p (λ a. IsMarkAt at a.event) → node_at (state_after base.now acts.now p) at ≡ Some was → was.deleted ≡ false
+        → IsSameAt (after base.now acts.now) at was }
+    ensures ids { (p : ℕ) (at : Tids) (ids : List HeapIds) → p ≤ length acts.now → IsOnBlocks (state_after base.now acts.now p)
+        → NoneFrom acts.now p (λ a. IsIdsEndAt at a.event) → HasIdsAt (state_after base.now acts.now p) at ids → HasIdsAt (after base.now acts.now) at ids }
+    ensures doomed { (p : ℕ) (at : Tids) → p ≤ length acts.now → IsOnBlocks (state_after base.now acts.now p)
+        → NoneFrom acts.now p (λ a. IsMarkAt at a.event) → IsDoomedAt (state_after base.now acts.now p) at → IsDoomedAt (after base.now acts.now) at }
+    ensures live { (p layer : ℕ) (at : Tids) → p ≤ length acts.now → IsOnBlocks (state_after base.now acts.now p)
+        → NoneFrom acts.now p (λ a. IsDrop a.event) → IsLiveAt (state_after base.now acts.now p) at layer → IsLiveAt (after base.now acts.now) at layer }
+{}
+
+/// Where the nodes of the graph at a position stand on its blocks, a place at which a node stands there has one from
+/// then on in a legal history, and of the same level.
+pub fn law_levels(base: &Graph, acts: &[Act])
+    requires { IsLegal base.now acts.now }
+    ensures { (n level : ℕ) (at : Tids) → IsOnBlocks (state_after base.now acts.now n)
+        → HasLevel (state_after base.now acts.now n) at level → HasLevel (after base.now acts.now) at level }
+{}
+
+/// Worked examples of the definitions.
 pub fn law_examples()
     // The element of 4 bits has 81 bytes and the list of a node of level 0, where m is 2, has 28, each
     // rounded up to eights and with an item pointer of 4; they fit one page.
@@ -100,7 +111,7 @@ pub fn law_examples()
     ensures versions { (next_version 255 15 ≡ 16) × (next_version 255 255 ≡ 1) × (next_version 15 15 ≡ 1) }
 {}
 
-/// A law, and no work. In an index of one block and with m 2 the first insert, as an index makes it, is a
+/// In an index of one block and with m 2 the first insert, as an index makes it, is a
 /// legal history, with any value of the index's length.
 pub fn law_first_insert(base: &Graph)
     requires one_block { base.now.blocks ≡ 1 }
@@ -110,7 +121,7 @@ pub fn law_first_insert(base: &Graph)
         → IsLegal base.now (first_insert desk at list_at id bits) }
 {}
 
-/// A law, and no work. A vacuum of an index that has no node, with its three phases and both barriers, is
+/// A vacuum of an index that has no node, with its three phases and both barriers, is
 /// a legal history.
 pub fn law_idle_vacuum(base: &Graph)
     requires no_nodes { base.now.nodes ≡ map.empty }
@@ -118,16 +129,16 @@ pub fn law_idle_vacuum(base: &Graph)
     ensures { (desk : ℕ) → IsLegal base.now (idle_vacuum desk) }
 {}
 
-/// A law, and no work. What the rules ask of a desk's next event, other than what a step answers by a word, holds on while other
-/// desks act, up to the desk's own next act.
+/// What the rules ask of a desk's next event, other than what a step answers by a word, holds on while other desks act,
+/// up to the desk's own next act. Of the graph where it was so it is asked that its nodes stand on its blocks.
 pub fn law_later(base: &Graph, acts: &[Act])
-    requires legal { IsLegal base.now acts.now }
-    requires on_blocks { IsOnBlocks base.now }
-    ensures { (n desk : ℕ) (e : Events) → ((k : ℕ) (a : Act) → n ≤ k → slice_get acts.now k ≡ Some a → a.desk ≢ desk)
+    requires { IsLegal base.now acts.now }
+    ensures { (n desk : ℕ) (e : Events) → IsOnBlocks (state_after base.now acts.now n)
+        → ((k : ℕ) (a : Act) → n ≤ k → slice_get acts.now k ≡ Some a → a.desk ≢ desk)
         → IsAsked base.now (take n acts.now) desk e → IsAsked base.now acts.now desk e }
 {}
 
-/// A law, and no work. Where each node has the slots of its level, an event that the rules allow meets what they ask so; and one that
+/// Where each node has the slots of its level, an event that the rules allow meets what they ask so; and one that
 /// meets it and is granted what a step's words say is allowed. Settling and faults are not spoken of.
 pub fn law_asked(base: &Graph, acts: &[Act])
     requires { HasAllSlots (after base.now acts.now) }
