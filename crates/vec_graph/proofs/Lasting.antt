@@ -6,9 +6,10 @@ use Rattle.vec_names.specs.declared.heap_id.HeapId.{HeapId}
 use Rattle.vec_history.specs.declared.event.Event.{Event}
 use Rattle.vec_history.specs.declared.event.Act.{Act}
 use Rattle.vec_history.specs.Acts.{NoneFrom}
+use Rattle.vec_history.specs.Gates.{AreGatesAllowed}
 use Rattle.vec_history.specs.Phases.{IsDrop}
 use Rattle.vec_history.proofs.Prefixes.{rest_after}
-use Rattle.vec_history.proofs.ByActs.{along, cut}
+use Rattle.vec_history.proofs.ByActs.{along, cut, allowed_at}
 use Rattle.vec_history.proofs.OneMore.{in_longer, act_last, one_longer}
 use Rattle.vec_graph.specs.declared.node.Node.{Node}
 use Rattle.vec_graph.specs.declared.graph.Graph.{Graph}
@@ -21,6 +22,9 @@ use Rattle.vec_graph.specs.Asking.{StandsSo}
 use Rattle.vec_graph.proofs.Placing.{on_effect}
 use Rattle.vec_graph.proofs.Levels.{after_append}
 use Rattle.vec_graph.proofs.Steps.{IsStep, step}
+
+pub gates_of : (base : Graph) (acts : List Act) → IsLegal base acts → AreGatesAllowed acts
+gates_of base acts legal n desk gate hold is = allowed_at (IsAllowed base) acts n _ legal is
 
 -- ---- states by their positions
 

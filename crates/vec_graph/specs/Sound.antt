@@ -24,8 +24,8 @@ pub record IsSoundFrom (g : Graph) (Root : Tid → Type 0) : Type 0 where
 
 -- the places where a search may begin: the entry point, and the live nodes
 pub data IsRoot (g : Graph) : Tid → Type 0 where
-  is_entry : (at : Tid) → g.entry ≡ Some at → IsRoot g at
-  is_live : (at : Tid) → IsLiveAt g at 0 → IsRoot g at
+  root_entry : (at : Tid) → g.entry ≡ Some at → IsRoot g at
+  root_live : (at : Tid) → IsLiveAt g at 0 → IsRoot g at
 
 abbrev pub IsSound : Graph → Type 0
 IsSound g = IsSoundFrom g (IsRoot g)
