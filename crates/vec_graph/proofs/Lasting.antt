@@ -1,6 +1,6 @@
 -- What lasts of a node from a position on.
 use Rattle.std.proofs.Common.{◌≡◌, ◌⊎◌, inl, inr, ℕ, ◌+◌, ◌<◌, ◌≤◌, false, List, [], ◌∷◌, ◌++◌, take, drop, length, slice_get, Some, refl, sym, ap, subst, ◌∙◌, append-nil, take-append-drop, arith}
-use Rattle.std.proofs.lemmas.List.{length-take-le, take-append-le, take_all}
+use Rattle.std.proofs.lemmas.List.{length-take-le, take-append-le, take_all, take-take}
 use Rattle.vec_names.specs.declared.tid.Tid.{Tid}
 use Rattle.vec_names.specs.declared.heap_id.HeapId.{HeapId}
 use Rattle.vec_history.specs.declared.event.Event.{Event}
@@ -33,6 +33,9 @@ same_state base acts a p h = ap (after base) (take-append-le p acts (a ∷ []) h
 
 pub last_state : (base : Graph) (acts : List Act) (p : ℕ) → length acts ≤ p → state_after base acts p ≡ after base acts
 last_state base acts p h = ap (after base) (take_all p acts h)
+
+pub states_in : (base : Graph) (acts : List Act) (m : ℕ) (n : ℕ) → n ≤ m → state_after base (take m acts) n ≡ state_after base acts n
+states_in base acts m n h = ap (after base) (take-take n m acts h)
 
 pub step_after : (base : Graph) (acts : List Act) → IsOnBlocks (after base acts) → (a : Act) → IsAllowed base acts a
     → IsStep base acts a.desk a.event (after base acts) (after base (acts ++ a ∷ []))

@@ -6,6 +6,7 @@ pub mod FirstInsert
 pub mod IdleVacuum
 pub mod Further
 pub mod Remaining
+pub mod Vacuuming
 pub mod Later
 pub mod NodeWords
 pub mod Asked
@@ -14,3 +15,4 @@ pub mod Lent
 pub mod Steps
 pub mod Lasting
 pub mod Shaping
+pub mod Own

@@ -13,8 +13,14 @@ ghost use Rattle.vec_graph.specs.Graph.{node_at, HasAllSlots, IsLive, IsLiveAt, 
 ghost use Rattle.list_values.specs.Masks.{kept};
 ghost use Rattle.index_sizes.specs.Sizes.{next_version};
 ghost use Rattle.vec_graph.specs.Effect.{effect, after, state_after, AreIdsChanged};
-ghost use Rattle.vec_history.specs.Acts.{NoneFrom};
-ghost use Rattle.vec_history.specs.Phases.{IsDrop};
+ghost use Rattle.vec_history.specs.declared.event.Event.TheVariants as event;
+ghost use Rattle.vec_history.specs.declared.gate.Gate.TheVariants.{Update};
+ghost use Rattle.vec_history.specs.declared.gate.Hold.TheVariants.{Alone};
+ghost use Rattle.vec_history.specs.declared.stage.Stage.{Stage as Stages};
+ghost use Rattle.vec_history.specs.Acts.{act_of, NoneFrom};
+ghost use Rattle.vec_history.specs.Gates.{IsOfGate, HoldsAs};
+ghost use Rattle.vec_history.specs.Phases.{IsDrop, IsOfVacuum, IsInPhase};
+ghost use Rattle.vec_graph.specs.Knowing.{Knows};
 ghost use Rattle.vec_graph.specs.Shaped.{IsShaped};
 ghost use Rattle.vec_graph.specs.Lasting.{IsMarkAt, IsIdsEndAt, IsSameAt, HasIdsAt};
 ghost use Rattle.vec_graph.specs.Places.{new_place, element_need, list_need, fits_one_page, IsOnBlocks, IsFree};
@@ -83,6 +89,39 @@ pub fn law_lasting(base: &Graph, acts: &[Act])
         → NoneFrom acts.now p (λ a. IsMarkAt at a.event) → IsDoomedAt (state_after base.now acts.now p) at → IsDoomedAt (after base.now acts.now) at }
     ensures live { (p layer : ℕ) (at : Tids) → p ≤ length acts.now → IsOnBlocks (state_after base.now acts.now p)
         → NoneFrom acts.now p (λ a. IsDrop a.event) → IsLiveAt (state_after base.now acts.now p) at layer → IsLiveAt (after base.now acts.now) at layer }
+{}
+
+/// What a desk has by its own acts lasts while it goes on: what it knows until its own next act of Update, and its
+/// phase until it ends that itself. A node that it puts it knows up to its level.
+pub fn law_own(base: &Graph, acts: &[Act])
+    ensures knows { (n desk layer : ℕ) (at : Tids) → n ≤ length acts.now → NoneFrom acts.now n (λ a. (a.desk ≡ desk) × IsOfGate Update a.event)
+        → Knows base.now (take n acts.now) desk at layer → Knows base.now acts.now desk at layer }
+    ensures put { (desk version level : ℕ) (at list_at : Tids) (id : HeapIds) (bits : List Bool) (lists : List (Option Tids))
+        → IsPutAllowed base.now acts.now desk at list_at version level bits lists
+        → Knows base.now (acts.now ++ act_of desk (event.Put at list_at version level id bits lists) ∷ []) desk at level }
+    ensures phase { IsLegal base.now acts.now → (n desk : ℕ) (stage : Stages) → n ≤ length acts.now
+        → NoneFrom acts.now n (λ a. (a.desk ≡ desk) × IsOfVacuum a.event) → IsInPhase (take n acts.now) desk stage → IsInPhase acts.now desk stage }
+{}
+
+/// What a vacuum may rest on from a position in one of its phases until it ends that, of a legal history whose nodes
+/// stand on their blocks there: live nodes stay live and no node becomes doomed, but for its own Drops; doomed
+/// nodes stay so, but for its own Marks. And while a desk holds Update alone, no other desk makes a node live.
+pub fn law_vacuum(base: &Graph, acts: &[Act])
+    requires { IsLegal base.now acts.now }
+    ensures live { (n desk layer : ℕ) (stage : Stages) (at : Tids) → n ≤ length acts.now → IsOnBlocks (state_after base.now acts.now n)
+        → IsInPhase (take n acts.now) desk stage → NoneFrom acts.now n (λ a. (a.desk ≡ desk) × IsOfVacuum a.event)
+        → NoneFrom acts.now n (λ a. (a.desk ≡ desk) × IsDrop a.event)
+        → IsLiveAt (state_after base.now acts.now n) at layer → IsLiveAt (after base.now acts.now) at layer }
+    ensures no_more_doomed { (n desk : ℕ) (stage : Stages) (at : Tids) → n ≤ length acts.now → IsOnBlocks (state_after base.now acts.now n)
+        → IsInPhase (take n acts.now) desk stage → NoneFrom acts.now n (λ a. (a.desk ≡ desk) × IsOfVacuum a.event)
+        → NoneFrom acts.now n (λ a. (a.desk ≡ desk) × IsDrop a.event)
+        → IsDoomedAt (after base.now acts.now) at → IsDoomedAt (state_after base.now acts.now n) at }
+    ensures doomed { (n desk : ℕ) (stage : Stages) (at : Tids) → n ≤ length acts.now → IsOnBlocks (state_after base.now acts.now n)
+        → IsInPhase (take n acts.now) desk stage → NoneFrom acts.now n (λ a. (a.desk ≡ desk) × IsOfVacuum a.event)
+        → NoneFrom acts.now n (λ a. (a.desk ≡ desk) × IsMarkAt at a.event)
+        → IsDoomedAt (state_after base.now acts.now n) at → IsDoomedAt (after base.now acts.now) at }
+    ensures no_more_live { (desk : ℕ) (at : Tids) (a : Act) → IsOnBlocks (after base.now acts.now) → IsAllowed base.now acts.now a → a.desk ≢ desk
+        → HoldsAs acts.now desk Update Alone → IsLiveAt (after base.now (acts.now ++ a ∷ [])) at 0 → IsLiveAt (after base.now acts.now) at 0 }
 {}
 
 /// Where the nodes of the graph at a position stand on its blocks, a place at which a node stands there has one from

@@ -41,6 +41,8 @@ fn laws_before_any_act(rt: HostRuntime) {
     law_places(&base, &acts);
     law_shaped(&base, &acts);
     law_lasting(&base, &acts);
+    law_own(&base, &acts);
+    law_vacuum(&base, &acts);
     law_levels(&base, &acts);
     law_later(&base, &acts);
     law_asked(&base, &acts);
