@@ -16,3 +16,4 @@ pub mod Steps
 pub mod Lasting
 pub mod Shaping
 pub mod Own
+pub mod Ending

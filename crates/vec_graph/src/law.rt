@@ -1,6 +1,6 @@
 //! What the definitions of the graph and of its histories mean: laws. A function here does no work.
 
-ghost use Rattle.std.specs.Prelude.{◌≡◌, ◌≢◌, ◌⊎◌, ℕ, ◌++◌, ◌∷◌, [], true, false, take, slice_get, Some, None, List, Bool, Option, ◌≤◌, ◌↔◌, length, Contains};
+ghost use Rattle.std.specs.Prelude.{◌≡◌, ◌≢◌, ◌⊎◌, ℕ, ◌++◌, ◌∷◌, [], true, false, take, slice_get, Some, None, List, Bool, Option, ◌≤◌, ◌↔◌, ◌<◌, ◌+◌, ◌*◌, ◌-◌, filter, length, Contains};
 ghost use Rattle.vec_names.specs.declared.tid.Tid.{Tid as Tids};
 ghost use Rattle.vec_names.specs.Levels.{most_level};
 ghost use Rattle.vec_history.specs.declared.event.Act.{Act};
@@ -9,6 +9,8 @@ ghost use Rattle.vec_graph.specs.Asking.{IsAsked, IsGranted, IsOfAll, StandsSo};
 ghost use Rattle.vec_names.specs.declared.heap_id.HeapId.{HeapId as HeapIds};
 ghost use Rattle.vec_graph.specs.declared.graph.Graph.{Graph as Graphs};
 ghost use Rattle.vec_graph.specs.declared.node.Node.{Node};
+ghost use Rattle.vec_graph.specs.declared.place.Place.{Place as Places};
+ghost use Rattle.vec_history.specs.Settling.{is_lasting};
 ghost use Rattle.vec_graph.specs.Graph.{node_at, HasAllSlots, IsLive, IsLiveAt, IsDoomed, IsDoomedAt, HasLevel, IsMember, layer_slots, slot_layer, entries};
 ghost use Rattle.list_values.specs.Masks.{kept};
 ghost use Rattle.index_sizes.specs.Sizes.{next_version};
@@ -23,8 +25,8 @@ ghost use Rattle.vec_history.specs.Phases.{IsDrop, IsOfVacuum, IsInPhase};
 ghost use Rattle.vec_graph.specs.Knowing.{Knows};
 ghost use Rattle.vec_graph.specs.Shaped.{IsShaped};
 ghost use Rattle.vec_graph.specs.Lasting.{IsMarkAt, IsIdsEndAt, IsSameAt, HasIdsAt};
-ghost use Rattle.vec_graph.specs.Places.{new_place, element_need, list_need, fits_one_page, IsOnBlocks, IsFree};
-ghost use Rattle.vec_graph.specs.Rules.{IsPutAllowed, IsEventAllowed};
+ghost use Rattle.vec_graph.specs.Places.{place_on, new_place, element_need, list_need, fits_one_page, IsOnBlocks, IsFree};
+ghost use Rattle.vec_graph.specs.Rules.{IsPutAllowed, IsEventAllowed, IsVacuumEndAllowed, IsCancelAllowed};
 ghost use Rattle.vec_graph.specs.Legal.{IsAllowed, IsLegal};
 ghost use Rattle.vec_graph.specs.Examples.{first_insert, idle_vacuum};
 ghost use Rattle.std.specs.FinMap as map;
@@ -63,6 +65,18 @@ pub fn law_places(base: &Graph, acts: &[Act])
     ensures on_blocks { (a : Act) → IsOnBlocks (after base.now (acts.now ++ a ∷ [])) }
     ensures free { (desk version level : ℕ) (at list_at : Tids) (bits : List Bool) (lists : List (Option Tids))
         → IsPutAllowed base.now acts.now desk at list_at version level bits lists → IsFree (after base.now acts.now) at level }
+{}
+
+/// A place on a block is on that block, and where a node stands there, that is used anew with its list place and
+/// version. A slot that is counted within a layer is one of that layer, counted over the whole tuple. The state after any
+/// acts is what their lasting events make of the base.
+pub fn law_told(base: &Graph, acts: &[Act])
+    ensures on_block { (b level : ℕ) (place : Places) → place_on base.now b level ≡ Some place → place.at.block ≡ b }
+    ensures anew { (b level : ℕ) (place : Places) (n : Node) → place_on base.now b level ≡ Some place → node_at base.now place.at ≡ Some n
+        → (n.list_at ≡ place.list_at) × (n.version ≡ place.version) }
+    ensures slot { (m level layer s : ℕ) → layer ≤ level → s < m → slot_layer m level ((level - layer) * m + s) ≡ layer }
+    ensures lowest { (m level s : ℕ) → 1 ≤ m → slot_layer m level (level * m + s) ≡ 0 }
+    ensures by_lasting { after base.now acts.now ≡ after base.now (filter (λ a. is_lasting a.event) acts.now) }
 {}
 
 /// Of a shaped graph each node stands on its blocks and has all slots of its level; and each act that is allowed
@@ -105,7 +119,7 @@ pub fn law_own(base: &Graph, acts: &[Act])
 
 /// What a vacuum may rest on from a position in one of its phases until it ends that, of a legal history whose nodes
 /// stand on their blocks there: live nodes stay live and no node becomes doomed, but for its own Drops; doomed
-/// nodes stay so, but for its own Marks. And while a desk holds Update alone, no other desk makes a node live.
+/// nodes stay so, but for its own Marks. The maker of a phase may end it in just one way. And while a desk holds Update alone, no other desk makes a node live.
 pub fn law_vacuum(base: &Graph, acts: &[Act])
     requires { IsLegal base.now acts.now }
     ensures live { (n desk layer : ℕ) (stage : Stages) (at : Tids) → n ≤ length acts.now → IsOnBlocks (state_after base.now acts.now n)
@@ -120,6 +134,9 @@ pub fn law_vacuum(base: &Graph, acts: &[Act])
         → IsInPhase (take n acts.now) desk stage → NoneFrom acts.now n (λ a. (a.desk ≡ desk) × IsOfVacuum a.event)
         → NoneFrom acts.now n (λ a. (a.desk ≡ desk) × IsMarkAt at a.event)
         → IsDoomedAt (state_after base.now acts.now n) at → IsDoomedAt (after base.now acts.now) at }
+    ensures ends { (desk : ℕ) (stage : Stages) → IsInPhase acts.now desk stage
+        → IsVacuumEndAllowed base.now acts.now desk ⊎ IsCancelAllowed base.now acts.now desk stage }
+    ensures ends_once { (desk : ℕ) (stage : Stages) → IsVacuumEndAllowed base.now acts.now desk → IsCancelAllowed base.now acts.now desk stage → ⊥ }
     ensures no_more_live { (desk : ℕ) (at : Tids) (a : Act) → IsOnBlocks (after base.now acts.now) → IsAllowed base.now acts.now a → a.desk ≢ desk
         → HoldsAs acts.now desk Update Alone → IsLiveAt (after base.now (acts.now ++ a ∷ [])) at 0 → IsLiveAt (after base.now acts.now) at 0 }
 {}

@@ -43,6 +43,7 @@ fn laws_before_any_act(rt: HostRuntime) {
     law_lasting(&base, &acts);
     law_own(&base, &acts);
     law_vacuum(&base, &acts);
+    law_told(&base, &acts);
     law_levels(&base, &acts);
     law_later(&base, &acts);
     law_asked(&base, &acts);
