@@ -1,6 +1,7 @@
 -- What the node at a place says of a rule.
 use Rattle.std.proofs.Common.{◌≡◌, ◌↔◌, ℕ, ◌≤◌, ◌<◌, ◌≢◌, ◌^◌, List, length, Option, Some, sym, subst, ◌∙◌}
 use Rattle.std.proofs.lemmas.Option.{same_Some}
+use Rattle.index_sizes.specs.declared.limits.TheConstants.{MOST_IDS}
 use Rattle.vec_names.specs.declared.tid.Tid.{Tid}
 use Rattle.vec_history.specs.declared.event.Act.{Act}
 use Rattle.vec_history.specs.declared.gate.Gate.TheVariants.{Update}
@@ -24,10 +25,10 @@ module _ (base : Graph) (acts : List Act) (g : Graph) (state : g ≡ after base 
   here at version n there = subst (λ h. IsThere h at version n) state there
 
   pub join_by : (desk : ℕ) (at : Tid) (version : ℕ) (n : Node) → IsThere g at version n → Holds acts desk Update
-      → ((1 ≤ length n.ids) × (length n.ids ≤ 9)) ↔ IsJoinAllowed base acts desk at version
+      → ((1 ≤ length n.ids) × (length n.ids < MOST_IDS)) ↔ IsJoinAllowed base acts desk at version
   join_by desk at version n there update = (
     λ h. record { update = update; node = n; there = here at version n there; some = h.0; room = h.1 },
-    λ may. subst (λ m. (1 ≤ length m.ids) × (length m.ids ≤ 9)) (same_there _ at version may.node n may.there (here at version n there)) (may.some, may.room),
+    λ may. subst (λ m. (1 ≤ length m.ids) × (length m.ids < MOST_IDS)) (same_there _ at version may.node n may.there (here at version n there)) (may.some, may.room),
   )
 
   pub drop_by : (desk : ℕ) (at : Tid) (version gone : ℕ) (n : Node) → IsThere g at version n → IsInPhase acts desk Remove
@@ -62,10 +63,10 @@ module _ (base : Graph) (acts : List Act) (g : Graph) (state : g ≡ after base 
 
   pub relist_by : (desk : ℕ) (at list_at : Tid) (version : ℕ) (lists : List (Option Tid)) (n : Node) → IsThere g at version n → Holds acts desk Update
       → n.list_at ≡ list_at → length lists ≡ length n.slots
-      → KnowsMembers base acts desk n.level lists ↔ IsRelistAllowed base acts desk at list_at version lists
+      → KnowsMembers base acts desk (after base acts).params.m n.level lists ↔ IsRelistAllowed base acts desk at list_at version lists
   relist_by desk at list_at version lists n there update listed as_many = (
     λ known. record { update = update; owner = n; there = here at version n there; listed = listed; as_many = as_many; known = known },
-    λ may. subst (λ (m : Node). KnowsMembers base acts desk m.level lists) (same_there _ at version may.owner n may.there (here at version n there)) may.known,
+    λ may. subst (λ (m : Node). KnowsMembers base acts desk (after base acts).params.m m.level lists) (same_there _ at version may.owner n may.there (here at version n there)) may.known,
   )
 
   pub entry_by : (desk : ℕ) (to : Tid) (level : ℕ) → HasLevel g to level → Holds acts desk Update

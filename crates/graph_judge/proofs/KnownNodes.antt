@@ -33,13 +33,13 @@ known_by_hold base acts states desk at layer hold since course holds =
           by_state.1 (record { position = known.position; from_low = omega arith; to_high = known.met; is = known.was_live }),
     )
 
-pub slot_known : (base : Graph) (acts : List Act) (desk level : ℕ) (lists : List (Option Tid)) → KnowsMembers base acts desk level lists
+pub slot_known : (base : Graph) (acts : List Act) (desk level : ℕ) (lists : List (Option Tid)) → KnowsMembers base acts desk (after base acts).params.m level lists
     → (k : ℕ) (named : Option Tid) → slice_get lists k ≡ Some named → KnowsSlot base acts desk level k named
 slot_known base acts desk level lists all k None at = tt
 slot_known base acts desk level lists all k (Some to) at =
     all (slot_layer (after base acts).params.m level k) to (record { slot = k; names = at; within = refl })
 
 pub members_known : (base : Graph) (acts : List Act) (desk level : ℕ) (lists : List (Option Tid))
-    → ((k : ℕ) (named : Option Tid) → slice_get lists k ≡ Some named → KnowsSlot base acts desk level k named) → KnowsMembers base acts desk level lists
+    → ((k : ℕ) (named : Option Tid) → slice_get lists k ≡ Some named → KnowsSlot base acts desk level k named) → KnowsMembers base acts desk (after base acts).params.m level lists
 members_known base acts desk level lists each layer to member =
     subst (λ l. Knows base acts desk to l) member.within (each member.slot (Some to) member.names)

@@ -2,6 +2,7 @@
 
 ghost use Rattle.std.specs.Prelude.{◌≡◌, ◌↔◌, IsTrue};
 ghost use Rattle.vec_graph.specs.Graph.{IsLiveAt, slot_layer};
+ghost use Rattle.vec_graph.specs.Effect.{after};
 ghost use Rattle.graph_judge.specs.Course.{AreStates};
 ghost use Rattle.vec_graph.specs.Knowing.{Knows};
 ghost use Rattle.graph_judge.specs.Knowable.{KnowsSlot, IsSomewhere};
@@ -65,7 +66,7 @@ pub(crate) fn knows_members(
     lists: &Listed<Option<Tid>>,
 ) -> bool
     requires { AreStates base.now acts.now states.now }
-    ensures { IsTrue result ↔ KnowsMembers base.now acts.now desk level lists.now }
+    ensures { IsTrue result ↔ KnowsMembers base.now acts.now desk (after base.now acts.now).params.m level lists.now }
 {
     let slots = lists.as_slice();
     for slot in 0..slots.len() {

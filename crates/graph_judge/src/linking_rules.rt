@@ -7,10 +7,11 @@ ghost use Rattle.vec_graph.specs.Rules.{IsPutAllowed, IsLinkAllowed, IsRelistAll
 
 use crate::cleaning::none_live;
 use crate::knowing::{knows, knows_members, layer_of_slot};
-use crate::node_rules::{are_same, fits, has_level, holds, holds_alone, there};
+use crate::node_rules::{are_same, fits, has_level, there};
 use bit_code::Bits;
 use vec_graph::{Graph, Place};
 use vec_history::{Act, Gate};
+use vec_history::{holds, holds_alone};
 use vec_names::{Listed, Tid};
 
 // The graph after all the acts.

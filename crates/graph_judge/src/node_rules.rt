@@ -11,27 +11,12 @@ ghost use Rattle.vec_graph.specs.Effect.{after};
 ghost use Rattle.graph_judge.specs.Deciding.{IsFitting};
 ghost use Rattle.vec_graph.specs.Rules.{IsThere, IsPlaced, IsPutAllowed, IsJoinAllowed, IsLinkAllowed, IsRelistAllowed, IsDropAllowed, IsMarkAllowed, IsEntryAtAllowed, IsNoEntryAllowed, IsEntryAllowed, IsHintAllowed};
 
-use index_sizes::{MOST_BLOCKS, slots_of_level};
+use index_sizes::{MOST_BLOCKS, MOST_IDS, slots_of_level};
 use bit_code::Bits;
 use vec_graph::{Graph, Node, Place, is_doomed};
-use vec_history::{Act, Gate, Hold, Stage};
-use vec_history::{hold_of, is_in_phase};
+use vec_history::{Act, Gate, Stage};
+use vec_history::{holds, is_in_phase};
 use vec_names::{Listed, Tid, most_level};
-
-pub(crate) fn holds(acts: &[Act], desk: u32, gate: Gate) -> bool
-    ensures { IsTrue result ↔ Holds acts.now desk gate }
-{
-    hold_of(acts, desk, gate).is_some()
-}
-
-pub(crate) fn holds_alone(acts: &[Act], desk: u32, gate: Gate) -> bool
-    ensures { IsTrue result ↔ HoldsAs acts.now desk gate Alone }
-{
-    match hold_of(acts, desk, gate) {
-        Some((hold, _)) => hold == Hold::Alone,
-        None => false,
-    }
-}
 
 // The node at a place, if it has this version and is not deleted.
 pub(crate) fn there(graph: &Graph, at: Tid, version: u8) -> Option<&Node>
@@ -93,12 +78,12 @@ pub(crate) fn may_join(
     }
 }
 
-// Whether the node has 1 to 9 ids.
+// Whether the node has an id, and room for one more.
 fn has_room_for_id(node: &Node) -> bool
-    ensures { IsTrue result ↔ ((1 ≤ length node.now.ids) × (length node.now.ids ≤ 9)) }
+    ensures { IsTrue result ↔ ((1 ≤ length node.now.ids) × (length node.now.ids < MOST_IDS)) }
 {
     let count = node.ids.len();
-    count >= 1 && count <= 9
+    count >= 1 && count < MOST_IDS
 }
 
 pub(crate) fn may_drop(

@@ -2,6 +2,7 @@
 use Rattle.std.proofs.Common.{◌≡◌, ℕ, ◌+◌, ◌<◌, List, [], ◌∷◌, ◌++◌, take, slice_get, length, get_or, Some, refl, sym, ap, subst, ◌∙◌}
 use Rattle.std.proofs.lemmas.List.{take_more}
 use Rattle.std.proofs.lemmas.Option.{slice_get_read}
+use Rattle.index_sizes.specs.declared.limits.TheConstants.{MOST_BLOCKS}
 use Rattle.vec_history.specs.declared.event.Event.{Event}
 use Rattle.vec_history.specs.declared.event.Event.TheVariants.{IvfGrow}
 use Rattle.vec_history.specs.declared.event.Act.{Act}
@@ -29,7 +30,7 @@ pub legal_more : (base : IvfGraph) (acts : List Act) (n : ℕ) (a : Act) → n <
 legal_more base acts n a h is legal may = subst (IsLegal base) (sym (taken_more acts n a h is)) (more_after (IsAllowed base) [] (take n acts) a legal may)
 
 pub grows_low : (g : IvfGraph) (acts : List Act) (desk : ℕ) (e : Event) → IsEventAllowed g acts desk e
-    → (list last block : ℕ) (id : _) (bits : _) → e ≡ IvfGrow list last block id bits → block < 32768
+    → (list last block : ℕ) (id : _) (bits : _) → e ≡ IvfGrow list last block id bits → block < MOST_BLOCKS
 grows_low g acts desk e may list last block id bits is = (subst (IsEventAllowed g acts desk) is may).not_high
 
 pub first_illegal : (base : IvfGraph) (acts : List Act) (n : ℕ) (a : Act) → n < length acts → a ≡ get_or acts n a

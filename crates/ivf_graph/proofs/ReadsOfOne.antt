@@ -13,6 +13,7 @@ use Rattle.ivf_graph.specs.declared.list.IvfList.{IvfList}
 use Rattle.ivf_graph.specs.declared.graph.IvfGraph.{IvfGraph}
 use Rattle.ivf_graph.specs.Graph.{AreBlocksApart}
 use Rattle.ivf_graph.specs.Answer.{Hit, found, probed, is_nearer, by_nearness, answer_of, ivf_answer}
+use Rattle.index_sizes.specs.declared.limits.TheConstants.{MOST_BITS, PAGE_ROOM}
 use Rattle.index_sizes.specs.Sizes.{item_need, centre_size, centres_on_page}
 use Rattle.ivf_graph.specs.Reads.{first_block, Centre, centre_of, centres_on, centre_pages, centres_read, is_centre_nearer, firsts, Walks, IsAnswerFrom}
 use Rattle.ivf_graph.proofs.ChainsRead.{Told, AreTold, all_told, walked, some_walk}
@@ -50,17 +51,17 @@ covered_by n c q (suc r) is less =
 covered : (n c : ℕ) → 0 < c → n ≤ div_ceil n c * c
 covered n c some = covered_by n c (n / c) (n % c) (omega arith) (omega arith)
 
-some_by : (q x : ℕ) → 8160 < x * (q + 1) → x ≤ 8028 → 0 < q
+some_by : (q x : ℕ) → PAGE_ROOM < x * (q + 1) → x ≤ 8028 → 0 < q
 some_by zero x h low = absurd (omega arith)
 some_by (suc q) x h low = omega arith
 
-some_a_page : (places : ℕ) → places ≤ 64000 → 0 < centres_on_page places
+some_a_page : (places : ℕ) → places ≤ MOST_BITS → 0 < centres_on_page places
 some_a_page places low =
-    let need : 0 < centre_need places = omega arith in
-    some_by (8160 / centre_need places) (centre_need places) (lt-mul-div-succ 8160 need) (omega arith)
+    let need : 0 < item_need (centre_size places) = omega arith in
+    some_by (PAGE_ROOM / item_need (centre_size places)) (item_need (centre_size places)) (lt-mul-div-succ PAGE_ROOM need) (omega arith)
 
 -- all pages tell the centres of all lists
-all_centres : (g : IvfGraph) (places : ℕ) → places ≤ 64000
+all_centres : (g : IvfGraph) (places : ℕ) → places ≤ MOST_BITS
     → centres_read (centres_on_page places) 0 (replicate (centre_pages places (length g.lists)) g) ≡ map centre_of (enumerate_from 0 g.lists)
 all_centres g places low =
     centres_from g (centres_on_page places) 0 (centre_pages places (length g.lists))
@@ -124,12 +125,12 @@ probed_told g apart query probes =
 
 -- ---- the answer
 
-told_firsts : (g : IvfGraph) (query : List Bool) (probes : ℕ) → length query ≤ 64000
+told_firsts : (g : IvfGraph) (query : List Bool) (probes : ℕ) → length query ≤ MOST_BITS
     → firsts query probes (centres_read (centres_on_page (length query)) 0 (replicate (centre_pages (length query) (length g.lists)) g))
     ≡ filter_map (λ l. first_block l.chain) (probed g query probes)
 told_firsts g query probes low = ap (firsts query probes) (all_centres g (length query) low) ∙ probed_firsts g query probes
 
-pub answer_of_one : (g : IvfGraph) (n : ℕ) (query : List Bool) (probes : ℕ) (answer : List Hit) → AreBlocksApart g → length query ≤ 64000
+pub answer_of_one : (g : IvfGraph) (n : ℕ) (query : List Bool) (probes : ℕ) (answer : List Hit) → AreBlocksApart g → length query ≤ MOST_BITS
     → IsAnswerFrom (replicate n g) (length g.lists) query probes answer → answer ≡ ivf_answer g query probes
 answer_of_one g n query probes answer apart low a =
     let pages = centre_pages (length query) (length g.lists) in
@@ -139,7 +140,7 @@ answer_of_one g n query probes answer apart low a =
     ∙ told_firsts g query probes low in
     a.in_order ∙ ap answer_of (walked g query a.walked same [] tt refl (probed g query probes) (probed_told g apart query probes) begin)
 
-pub some_answer : (g : IvfGraph) (query : List Bool) (probes : ℕ) → AreBlocksApart g → length query ≤ 64000
+pub some_answer : (g : IvfGraph) (query : List Bool) (probes : ℕ) → AreBlocksApart g → length query ≤ MOST_BITS
     → (n : ℕ) × IsAnswerFrom (replicate n g) (length g.lists) query probes (ivf_answer g query probes)
 some_answer g query probes apart low =
     let pages = centre_pages (length query) (length g.lists) in

@@ -1,45 +1,26 @@
-//! What the definitions of the index of lists and of its histories mean: laws, and no work.
+//! What the definitions of the index of lists and of its histories mean: laws. A function here does no work.
 
-ghost use Rattle.std.specs.Prelude.{◌≤◌, replicate, ◌≡◌, ◌≢◌, ◌⊎◌, ℕ, ◌++◌, ◌∷◌, [], take, slice_get, Some, Bool, true, false, List, map, min, length, IsSorted, IsPermutation};
-ghost use Rattle.vec_history.specs.declared.event.Act.{Act};
+ghost use Rattle.std.specs.Prelude.{◌≤◌, replicate, ◌≡◌, ◌⊎◌, ℕ, ◌∷◌, [], Bool, true, false, List, map, min, length, IsSorted, IsPermutation};
 ghost use Rattle.vec_history.specs.declared.event.Event.{Event as Events};
-ghost use Rattle.vec_history.specs.declared.gate.Gate.{Gate as Gates};
-ghost use Rattle.vec_history.specs.declared.gate.Hold.{Hold as Holding};
-ghost use Rattle.vec_history.specs.declared.gate.Hold.TheVariants.{Alone};
-ghost use Rattle.vec_history.specs.Gates.{HoldsAs};
 ghost use Rattle.ivf_graph.specs.Answer.{Hit, ivf_answer, found, probed, hit_of, hit_of_row, hit_cmp};
 ghost use Rattle.ivf_graph.specs.Examples.{four, row_1, row_2, row_3, row_4, row_5, unequal_by, worked_acts, worked_index};
 ghost use Rattle.ivf_graph.specs.Graph.{rows, centres, row_need, AreBlocksApart, AreBlocksOwn};
 ghost use Rattle.ivf_graph.specs.Reads.{centre_pages, IsAnswerAt, IsAnswerFrom};
 ghost use Rattle.ivf_graph.specs.Effect.{effect, after, AreRowsChanged};
-ghost use Rattle.ivf_graph.specs.Legal.{IsAllowed, IsLegal};
+ghost use Rattle.ivf_graph.specs.Legal.{IsLegal};
 
 use crate::graph::IvfGraph;
+use index_sizes::{MOST_BITS, MOST_BLOCKS};
 use vec_history::Act;
 
-/// A law, and no work. Each act of a legal history is allowed after the acts before it, so what is cut off
-/// anywhere is legal too; and an act that is allowed makes a longer legal history.
-pub fn law_cut(base: &IvfGraph, acts: &[Act])
-    requires { IsLegal base.now acts.now }
-    ensures cut { (n : ℕ) → IsLegal base.now (take n acts.now) }
-    ensures each { (n : ℕ) (a : Act) → slice_get acts.now n ≡ Some a → IsAllowed base.now (take n acts.now) a }
-    ensures one_more { (a : Act) → IsAllowed base.now acts.now a → IsLegal base.now (acts.now ++ a ∷ []) }
-{}
-
-/// A law, and no work. While a desk holds a gate alone, no other desk holds it.
-pub fn law_alone(base: &IvfGraph, acts: &[Act])
-    requires { IsLegal base.now acts.now }
-    ensures { (gate : Gates) (hold : Holding) (desk other : ℕ) → other ≢ desk → HoldsAs acts.now desk gate Alone → HoldsAs acts.now other gate hold → ⊥ }
-{}
-
-/// A law, and no work. An event that adds no row, grows no chain and drops no rows leaves the rows of the
+/// An event that adds no row, grows no chain and drops no rows leaves the rows of the
 /// lists as they are; and no event changes a centre or the number of lists.
 pub fn law_rows(index: &IvfGraph)
     ensures same_rows { (e : Events) → AreRowsChanged e ⊎ (rows (effect e index.now) ≡ rows index.now) }
     ensures same_centres { (e : Events) → centres (effect e index.now) ≡ centres index.now }
 {}
 
-/// A law, and no work. Each block of a chain stays one of the index's, and stands once in the chains: where
+/// Each block of a chain stays one of the index's, and stands once in the chains: where
 /// it is so at the base, it is so after a legal history.
 pub fn law_blocks(base: &IvfGraph, acts: &[Act])
     requires legal { IsLegal base.now acts.now }
@@ -47,7 +28,7 @@ pub fn law_blocks(base: &IvfGraph, acts: &[Act])
     ensures { AreBlocksOwn (after base.now acts.now) }
 {}
 
-/// A law, and no work. The answer rises by distance and then by the rows' names; it has each row of the
+/// The answer rises by distance and then by the rows' names; it has each row of the
 /// lists that are probed, as often as it stands there, and no other. As many lists are probed as asked, or all
 /// where there are fewer, and then the answer has all rows.
 pub fn law_answer(index: &IvfGraph)
@@ -58,17 +39,17 @@ pub fn law_answer(index: &IvfGraph)
         → IsPermutation (map (hit_of_row query) (rows index.now)) (ivf_answer index.now query probes) }
 {}
 
-/// A law, and no work. A search whose reads are all of this one state, in which each block stands once in
+/// A search whose reads are all of this one state, in which each block stands once in
 /// the chains, answers as the state does; and there is such a search.
 pub fn law_reads(index: &IvfGraph)
     requires { AreBlocksApart index.now }
-    ensures one { (reads probes : ℕ) (query : List Bool) (answer : List Hit) → length query ≤ 64000
+    ensures one { (reads probes : ℕ) (query : List Bool) (answer : List Hit) → length query ≤ MOST_BITS
         → IsAnswerFrom (replicate reads index.now) (length index.now.lists) query probes answer → answer ≡ ivf_answer index.now query probes }
-    ensures some { (probes : ℕ) (query : List Bool) → length query ≤ 64000
+    ensures some { (probes : ℕ) (query : List Bool) → length query ≤ MOST_BITS
         → (reads : ℕ) × IsAnswerFrom (replicate reads index.now) (length index.now.lists) query probes (ivf_answer index.now query probes) }
 {}
 
-/// A law, and no work. Worked examples of the definitions.
+/// Worked examples of the definitions.
 pub fn law_examples()
     // Of the centres 0000, 1110 and 0001 the last two are as near to 0111, and the lower number goes first.
     ensures one_probe { ivf_answer worked_index (four false true true true) 1 ≡ (unequal_by 1, row_3) ∷ (unequal_by 2, row_4) ∷ [] }
@@ -79,9 +60,9 @@ pub fn law_examples()
     ensures before_it { IsAnswerAt worked_index worked_acts (0 ∷ 0 ∷ []) (four false true true true) 1 ((unequal_by 1, row_3) ∷ (unequal_by 2, row_4) ∷ []) }
     ensures behind_it { IsAnswerAt worked_index worked_acts (0 ∷ 1 ∷ []) (four false true true true) 1
         ((unequal_by 1, row_3) ∷ (unequal_by 1, row_5) ∷ (unequal_by 2, row_4) ∷ []) }
-    ensures pages { (centre_pages 4 3 ≡ 1) × (centre_pages 64000 32768 ≡ 32768) }
+    ensures pages { (centre_pages 4 3 ≡ 1) × (centre_pages MOST_BITS MOST_BLOCKS ≡ MOST_BLOCKS) }
 
     // A row of 64,000 places takes 8,020 of a page's 8,160 bytes, so one page has one of them.
-    ensures long_row { row_need 64000 ≡ 8020 }
+    ensures long_row { row_need MOST_BITS ≡ 8020 }
     ensures short_row { row_need 4 ≡ 28 }
 {}

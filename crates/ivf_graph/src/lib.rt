@@ -17,7 +17,7 @@ mod rules;
 
 pub use audit::audit_ivf;
 pub use graph::IvfGraph;
-pub use law::{law_alone, law_answer, law_blocks, law_cut, law_examples, law_reads, law_rows};
+pub use law::{law_answer, law_blocks, law_examples, law_reads, law_rows};
 pub use list::IvfList;
 pub use vec_history::AuditFault;
 

@@ -1,9 +1,6 @@
 //! What the rules allow.
 
 ghost use Rattle.std.specs.Prelude.{◌≡◌, ◌↔◌, ◌≤◌, IsTrue, All};
-ghost use Rattle.vec_history.specs.declared.gate.Hold.TheVariants.{Alone};
-ghost use Rattle.vec_history.specs.declared.gate.Gate.TheVariants.{Vacuum};
-ghost use Rattle.vec_history.specs.Gates.{HoldsAs};
 ghost use Rattle.std.specs.List.Sorted.{IsStrictlyIncreasing};
 ghost use Rattle.ivf_graph.specs.Graph.{IsOfChain};
 ghost use Rattle.ivf_graph.specs.Rules.{IsAddAllowed, IsGrowAllowed, IsCutAllowed, IsAimAllowed, IsEventAllowed};
@@ -12,8 +9,8 @@ use index_sizes::MOST_BLOCKS;
 use crate::blocks::{has_room, is_as_long, is_last, rows_on};
 use crate::graph::IvfGraph;
 use bit_code::Bits;
-use vec_history::{Act, Event, Gate, Hold};
-use vec_history::{hold_of, may_fault, may_give_back, may_settle, may_take};
+use vec_history::{Act, Event, Gate};
+use vec_history::{holds_alone, may_fault, may_give_back, may_settle, may_take};
 use vec_names::{HeapId, Listed};
 
 /// Whether a row may be added on the block.
@@ -58,23 +55,13 @@ fn are_there(gone: &[u16], count: usize) -> bool
         .all(|offset| 1 <= *offset && usize::from(*offset) <= count)
 }
 
-/// Whether the desk holds Vacuum alone.
-fn is_vacuuming(acts: &[Act], desk: u32) -> bool
-    ensures { IsTrue result ↔ HoldsAs acts.now desk Vacuum Alone }
-{
-    match hold_of(acts, desk, Gate::Vacuum) {
-        Some((hold, _)) => hold == Hold::Alone,
-        None => false,
-    }
-}
-
 /// Whether the desk may take the rows at these offsets from the block.
 pub(crate) fn may_cut(index: &IvfGraph, acts: &[Act], desk: u32, block: u32, gone: &[u16]) -> bool
     ensures { IsTrue result ↔ IsCutAllowed index.now acts.now desk block gone.now }
 {
     match rows_on(index, block) {
         Some(rows) => {
-            is_vacuuming(acts, desk)
+            holds_alone(acts, desk, Gate::Vacuum)
                 && !gone.is_empty()
                 && is_rising(gone)
                 && are_there(gone, rows.len())

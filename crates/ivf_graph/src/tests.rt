@@ -232,8 +232,6 @@ fn laws_before_any_act(rt: HostRuntime) {
         blocks: 2,
     };
     let acts: [Act; 0] = [];
-    law_cut(&base, &acts);
-    law_alone(&base, &acts);
     law_blocks(&base, &acts);
     law_rows(&base);
     law_answer(&base);

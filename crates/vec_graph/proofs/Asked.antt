@@ -14,7 +14,7 @@ use Rattle.vec_graph.specs.Graph.{node_at, HasAllSlots, IsMember, slot_layer}
 use Rattle.vec_graph.specs.Effect.{effect, after, joined, linked, relisted, dropped, marked}
 use Rattle.vec_graph.specs.Knowing.{Knows}
 use Rattle.vec_graph.specs.Rules.{IsEventAllowed, IsPutAllowed, IsLinkAllowed, IsRelistAllowed, KnowsMembers}
-use Rattle.vec_graph.specs.Asking.{StandsSo, KnowsEach, IsPutAsked, IsLinkAsked, IsRelistAsked, IsAsked, IsGranted, IsFresh, IsOfAll}
+use Rattle.vec_graph.specs.Asking.{StandsSo, IsPutAsked, IsLinkAsked, IsRelistAsked, IsAsked, IsGranted, IsFresh, IsOfAll}
 use Rattle.vec_graph.proofs.Remaining.{params_changed}
 
 -- no event changes the parameters
@@ -47,10 +47,10 @@ module _ (base : Graph) (acts : List Act) (desk : ℕ) where
   same_m : (after base acts).params.m ≡ base.params.m
   same_m = ap (λ (p : Params). p.m) (same_params base acts)
 
-  each_from : (level : ℕ) (lists : List (Option Tid)) → KnowsMembers base acts desk level lists → KnowsEach base acts desk level lists
+  each_from : (level : ℕ) (lists : List (Option Tid)) → KnowsMembers base acts desk (after base acts).params.m level lists → KnowsMembers base acts desk base.params.m level lists
   each_from level lists known = subst (λ (m : ℕ). (layer : ℕ) (to : Tid) → IsMember m level lists layer to → Knows base acts desk to layer) same_m known
 
-  members_from : (level : ℕ) (lists : List (Option Tid)) → KnowsEach base acts desk level lists → KnowsMembers base acts desk level lists
+  members_from : (level : ℕ) (lists : List (Option Tid)) → KnowsMembers base acts desk base.params.m level lists → KnowsMembers base acts desk (after base acts).params.m level lists
   members_from level lists known = subst (λ (m : ℕ). (layer : ℕ) (to : Tid) → IsMember m level lists layer to → Knows base acts desk to layer) (sym same_m) known
 
   long_slots : HasAllSlots (after base acts) → (at : Tid) (n : Node) → node_at (after base acts) at ≡ Some n → length n.slots ≡ slots_of_level base.params.m n.level
@@ -129,7 +129,7 @@ module _ (base : Graph) (acts : List Act) (desk : ℕ) where
         there = f.there;
         listed = ap (λ (n : Node). n.list_at) (sym same) ∙ k.owner.listed;
         as_many = k.as_many ∙ sym (long_slots shaped at f.node f.there.stands ∙ ap (λ (l : ℕ). slots_of_level base.params.m l) level_is);
-        known = members_from f.node.level lists (subst (λ (l : ℕ). KnowsEach base acts desk l lists) (sym level_is) k.known);
+        known = members_from f.node.level lists (subst (λ (l : ℕ). KnowsMembers base acts desk base.params.m l lists) (sym level_is) k.known);
       }
 
   pub allowed_by : HasAllSlots (after base acts) → (e : Event) → IsAsked base acts desk e → IsGranted base acts desk e → IsEventAllowed base acts desk e

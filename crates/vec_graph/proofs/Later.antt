@@ -21,15 +21,17 @@ use Rattle.vec_graph.specs.declared.node.Node.{Node}
 use Rattle.vec_graph.specs.declared.graph.Graph.{Graph}
 use Rattle.vec_graph.specs.Graph.{node_at, IsLive, IsLiveAt, IsDoomed, IsDoomedAt, IsMember}
 use Rattle.vec_graph.specs.Places.{IsOnBlocks}
-use Rattle.vec_graph.specs.Effect.{effect, after, changed, joined, linked, relisted, dropped, marked}
+use Rattle.vec_graph.specs.Effect.{effect, after, state_after, changed, joined, linked, relisted, dropped, marked}
 use Rattle.vec_graph.specs.Rules.{IsEventAllowed, IsPhaseAllowed, IsVacuumEndAllowed, IsCancelAllowed, IsDropAllowed, IsMarkAllowed, IsEntryAllowed, IsEntryAtAllowed, IsNoEntryAllowed, IsHintAllowed, IsThere}
 use Rattle.vec_history.specs.Legal.{IsLegalAfter}
 use Rattle.vec_graph.specs.Legal.{IsAllowed, IsLegal}
-use Rattle.vec_graph.specs.Asking.{StandsSo, KnowsEach, IsPutAsked, IsLinkAsked, IsRelistAsked, IsAsked}
+use Rattle.vec_graph.specs.Asking.{StandsSo, IsPutAsked, IsLinkAsked, IsRelistAsked, IsAsked}
 use Rattle.vec_history.proofs.Prefixes.{cut_after, each_after, more_after, rest_after}
 use Rattle.vec_graph.proofs.Placing.{free_place, same_list, on_effect}
-use Rattle.vec_graph.proofs.Levels.{after_append, on_along}
-use Rattle.vec_graph.proofs.Further.{in_longer, in_one_more, holds_on, holds_as_on, holds_back, phase_on, phase_back, removed_on, repaired_on, knows_on}
+use Rattle.vec_graph.proofs.Levels.{after_append}
+use Rattle.vec_history.proofs.OneMore.{in_longer, in_one_more, phase_on}
+use Rattle.vec_graph.proofs.Vacuuming.{its_phase, no_vacuum, no_drop}
+use Rattle.vec_graph.proofs.Further.{holds_on, holds_as_on, holds_back, phase_back, removed_on, repaired_on, knows_on}
 use Rattle.vec_graph.proofs.Remaining.{Has, has_inserted, had_before, has_changed, had_changed, blocks_changed}
 
 not_empty : {X : Type 0} (xs : List X) (x : X) → xs ++ x ∷ [] ≡ [] → ⊥
@@ -49,55 +51,8 @@ module _ (base : Graph) (acts : List Act) (legal : IsLegal base acts) (on : IsOn
 
   -- ---- phases
 
-  its_phase : (stage other_stage : Stage) → IsInPhase acts desk stage → IsInPhase acts a.desk other_stage → ⊥
-  its_phase stage other_stage p q = other (one_phase acts a.desk desk other_stage stage q.0 p.0 q.1 p.1).1
-
-  no_vacuum : (e : Event) → IsEventAllowed base acts a.desk e → (stage : Stage) → IsInPhase acts desk stage → IsOfVacuum e → ⊥
-  no_vacuum (Phase stages.Remove) ok stage p of = ok.no_phase (desk, stage, p)
-  no_vacuum (Phase stages.Repair) ok stage p of = its_phase stage stages.Remove p (ok.1.begun, ok.1.phase)
-  no_vacuum (Phase stages.Mark) ok stage p of = its_phase stage stages.Repair p (ok.begun, ok.phase)
-  no_vacuum VacuumEnd ok stage p of = its_phase stage stages.Mark p ok.phase
-  no_vacuum (Cancel other_stage) ok stage p of = its_phase stage other_stage p ok.phase
-  no_vacuum (Put at list_at version level id bits lists) ok stage p of = of
-  no_vacuum (Join at version id) ok stage p of = of
-  no_vacuum (Link at list_at version slot to) ok stage p of = of
-  no_vacuum (Relist at list_at version lists) ok stage p of = of
-  no_vacuum (Drop at version gone) ok stage p of = of
-  no_vacuum (Mark at list_at version) ok stage p of = of
-  no_vacuum (Entry to level) ok stage p of = of
-  no_vacuum (Hint block) ok stage p of = of
-  no_vacuum (IvfAdd block id bits) ok stage p of = of
-  no_vacuum (IvfGrow list last block id bits) ok stage p of = of
-  no_vacuum (IvfDrop block gone) ok stage p of = of
-  no_vacuum (IvfHint list block) ok stage p of = of
-  no_vacuum (Gate gate hold) ok stage p of = of
-  no_vacuum (Ungate gate) ok stage p of = of
-  no_vacuum (Settled upto) ok stage p of = of
-  no_vacuum (DiskFaulted count) ok stage p of = of
-
-  no_drop : (e : Event) → IsEventAllowed base acts a.desk e → (stage : Stage) → IsInPhase acts desk stage → IsDrop e → ⊥
-  no_drop (Drop at version gone) ok stage p is = its_phase stage stages.Remove p ok.phase
-  no_drop (Phase s) ok stage p is = is
-  no_drop VacuumEnd ok stage p is = is
-  no_drop (Cancel s) ok stage p is = is
-  no_drop (Put at list_at version level id bits lists) ok stage p is = is
-  no_drop (Join at version id) ok stage p is = is
-  no_drop (Link at list_at version slot to) ok stage p is = is
-  no_drop (Relist at list_at version lists) ok stage p is = is
-  no_drop (Mark at list_at version) ok stage p is = is
-  no_drop (Entry to level) ok stage p is = is
-  no_drop (Hint block) ok stage p is = is
-  no_drop (IvfAdd block id bits) ok stage p is = is
-  no_drop (IvfGrow list last block id bits) ok stage p is = is
-  no_drop (IvfDrop block gone) ok stage p is = is
-  no_drop (IvfHint list block) ok stage p is = is
-  no_drop (Gate gate hold) ok stage p is = is
-  no_drop (Ungate gate) ok stage p is = is
-  no_drop (Settled upto) ok stage p is = is
-  no_drop (DiskFaulted count) ok stage p is = is
-
   pub in_phase_on : (stage : Stage) → IsInPhase acts desk stage → IsInPhase (acts ++ a ∷ []) desk stage
-  in_phase_on stage p = (p.0, phase_on acts a desk other stage p.0 (no_vacuum a.event may stage p) p.1)
+  in_phase_on stage p = (p.0, phase_on acts a desk stage p.0 (no_vacuum base acts desk a.desk other a.event may stage p) p.1)
 
   -- ---- nodes
 
@@ -158,8 +113,8 @@ module _ (base : Graph) (acts : List Act) (legal : IsLegal base acts) (on : IsOn
         q has
     doomed_on (Link at list_place version slot to) ok P doomed keeps q has = has_changed P g at (linked slot to) (λ m is p. keeps m _ p) q has
     doomed_on (Relist at list_place version lists) ok P doomed keeps q has = has_changed P g at (relisted lists) (λ m is p. keeps m lists p) q has
-    doomed_on (Drop at version gone) ok P doomed keeps q has = absurd (its_phase stage stages.Remove phase ok.phase)
-    doomed_on (Mark at list_place version) ok P doomed keeps q has = absurd (its_phase stage stages.Mark phase ok.phase)
+    doomed_on (Drop at version gone) ok P doomed keeps q has = absurd (its_phase acts desk a.desk other stage stages.Remove phase ok.phase)
+    doomed_on (Mark at list_place version) ok P doomed keeps q has = absurd (its_phase acts desk a.desk other stage stages.Mark phase ok.phase)
     doomed_on (Entry to high) ok P doomed keeps q has = has
     doomed_on (Hint block) ok P doomed keeps q has = has
     doomed_on (IvfAdd block id bits) ok P doomed keeps q has = has
@@ -182,8 +137,8 @@ module _ (base : Graph) (acts : List Act) (legal : IsLegal base acts) (on : IsOn
         had_changed IsDoomed g at (linked slot to) (λ m is p. record { not_deleted = p.not_deleted; no_ids = p.no_ids }) q has
     doomed_back (Relist at list_place version lists) ok q has =
         had_changed IsDoomed g at (relisted lists) (λ m is p. record { not_deleted = p.not_deleted; no_ids = p.no_ids }) q has
-    doomed_back (Drop at version gone) ok q has = absurd (its_phase stage stages.Remove phase ok.phase)
-    doomed_back (Mark at list_place version) ok q has = absurd (its_phase stage stages.Mark phase ok.phase)
+    doomed_back (Drop at version gone) ok q has = absurd (its_phase acts desk a.desk other stage stages.Remove phase ok.phase)
+    doomed_back (Mark at list_place version) ok q has = absurd (its_phase acts desk a.desk other stage stages.Mark phase ok.phase)
     doomed_back (Entry to high) ok q has = has
     doomed_back (Hint block) ok q has = has
     doomed_back (IvfAdd block id bits) ok q has = has
@@ -216,8 +171,8 @@ module _ (base : Graph) (acts : List Act) (legal : IsLegal base acts) (on : IsOn
         q has
     droppable_on (Link at list_place version slot to) ok v gone q has = has_changed (Droppable v gone) g at (linked slot to) (λ m is p. p) q has
     droppable_on (Relist at list_place version lists) ok v gone q has = has_changed (Droppable v gone) g at (relisted lists) (λ m is p. p) q has
-    droppable_on (Drop at version mask) ok v gone q has = absurd (its_phase stage stages.Remove phase ok.phase)
-    droppable_on (Mark at list_place version) ok v gone q has = absurd (its_phase stage stages.Mark phase ok.phase)
+    droppable_on (Drop at version mask) ok v gone q has = absurd (its_phase acts desk a.desk other stage stages.Remove phase ok.phase)
+    droppable_on (Mark at list_place version) ok v gone q has = absurd (its_phase acts desk a.desk other stage stages.Mark phase ok.phase)
     droppable_on (Entry to high) ok v gone q has = has
     droppable_on (Hint block) ok v gone q has = has
     droppable_on (IvfAdd block id bits) ok v gone q has = has
@@ -260,6 +215,10 @@ module _ (base : Graph) (acts : List Act) (legal : IsLegal base acts) (on : IsOn
     live_back (Cancel s) ok q has = has
     live_back (Settled upto) ok q has = has
     live_back (DiskFaulted count) ok q has = has
+
+    pub live_before : (q : Tid) → Has (effect 255 a.event (after base acts)).nodes IsLive q → Has (after base acts).nodes IsLive q
+    unfolding g
+    live_before q has = live_back a.event may q has
 
   -- ---- blocks
 
@@ -410,8 +369,8 @@ module _ (base : Graph) (acts : List Act) (legal : IsLegal base acts) (on : IsOn
   }
   phase_asked_on stages.Repair k =
       let phase : IsInPhase acts desk stages.Remove = (k.1.begun, k.1.phase) in
-      (k.0, removed_on acts a desk other k.0 (no_vacuum a.event may stages.Remove phase) (no_drop a.event may stages.Remove phase) k.1)
-  phase_asked_on stages.Mark k = repaired_on acts a desk other base (no_vacuum a.event may stages.Repair (k.begun, k.phase)) k
+      (k.0, removed_on acts a desk other k.0 (no_vacuum base acts desk a.desk other a.event may stages.Remove phase) (no_drop base acts desk a.desk other a.event may stages.Remove phase) k.1)
+  phase_asked_on stages.Mark k = repaired_on acts a desk other base (no_vacuum base acts desk a.desk other a.event may stages.Repair (k.begun, k.phase)) k
 
   end_on : IsVacuumEndAllowed base acts desk → IsVacuumEndAllowed base (acts ++ a ∷ []) desk
   end_on k = record { phase = in_phase_on stages.Mark k.phase; none_doomed = λ at d. k.none_doomed at (no_more_doomed stages.Mark k.phase at d) }
@@ -489,9 +448,9 @@ in_rest (suc n) (y ∷ ys) k x is =
     let same : suc (n + k) ≡ suc n + k = omega arith in
     subst (λ (i : ℕ). slice_get (y ∷ ys) i ≡ Some x) same (in_rest n ys k x is)
 
-pub later : (base : Graph) (acts : List Act) → IsLegal base acts → IsOnBlocks base → (n desk : ℕ) (e : Event)
+pub later : (base : Graph) (acts : List Act) → IsLegal base acts → (n desk : ℕ) (e : Event) → IsOnBlocks (state_after base acts n)
     → ((k : ℕ) (a : Act) → n ≤ k → slice_get acts k ≡ Some a → a.desk ≢ desk) → IsAsked base (take n acts) desk e → IsAsked base acts desk e
-later base acts legal on n desk e others asked =
+later base acts legal n desk e on others asked =
     subst (λ h. IsAsked base h desk e) (take-append-drop n acts)
-    (along base (take n acts) (drop n acts) (cut_after (IsAllowed base) [] acts n legal) (rest_after (IsAllowed base) [] acts n legal) (on_along base (take n acts) on) desk e
+    (along base (take n acts) (drop n acts) (cut_after (IsAllowed base) [] acts n legal) (rest_after (IsAllowed base) [] acts n legal) on desk e
     (λ k a is. others (n + k) a (omega arith) (in_rest n acts k a is)) asked)

@@ -1,9 +1,10 @@
 -- The layer of a slot, and the slots of a layer.
 use Rattle.std.proofs.Common.{◌≡◌, ◌↔◌, ℕ, ◌+◌, ◌-◌, ◌*◌, ◌/◌, ◌<◌, ◌≤◌, ◌==◌, true, false, cond, List, take, drop, length, get_or, slice_get, Contains, Option, Some, refl, sym, ap, subst, ◌∙◌, arith, length-drop, length-take, get_or-drop, get_or-take, eqb-true, eq-eqb, true≢false, ◌≢◌, le-div_iff_mul-le, div-lt_iff_lt-mul, add-mul, one-mul}
 use Rattle.std.proofs.lemmas.Option.{slice_get_within, get_or_from_slice_get, slice_get_read}
-use Rattle.std.proofs.Math.Nat.{div-mul-le_self, lt-div-mul-add}
+use Rattle.std.proofs.Math.Nat.{div-mul-le_self, lt-div-mul-add, mul-add-div_right}
+use Rattle.std.proofs.lemmas.Nat.{div-mul-add}
 use Rattle.vec_names.specs.declared.tid.Tid.{Tid}
-use Rattle.vec_graph.specs.Graph.{IsMember, layer_slots}
+use Rattle.vec_graph.specs.Graph.{IsMember, layer_slots, slot_layer}
 
 -- ---- parts of a list
 
@@ -97,3 +98,16 @@ members m level layer slots to positive high =
       | true ↦ λ e. in_lowest m level layer slots to positive (eqb-true _ _ e)
       | false ↦ λ e. in_higher m level layer slots to positive high (positive_of layer (λ z. true≢false (sym (eq-eqb layer 0 z) ∙ e)))
     ] refl
+
+-- ---- the slot of a layer
+
+-- the slot of this number of a layer, counted over the whole tuple
+pub layer_of_place : (m level layer s : ℕ) → layer ≤ level → s < m → slot_layer m level ((level - layer) * m + s) ≡ layer
+layer_of_place m level layer s low few =
+    let over = div-mul-add (level - layer) m s few in
+    ap (λ (k : ℕ). level - k) over ∙ omega (arith, low)
+
+pub lowest_of_place : (m level s : ℕ) → 1 ≤ m → slot_layer m level (level * m + s) ≡ 0
+lowest_of_place m level s some =
+    let over = mul-add-div_right some level s in
+    ap (λ (k : ℕ). level - k) over ∙ omega arith

@@ -84,12 +84,8 @@ along base before (a ∷ acts) legal on q level has =
     let has_later = subst (λ g. HasLevel g q level) one (on_event base before a.desk a.event legal.0 on q level has) in
     subst (λ h. HasLevel (after base h) q level) (append_assoc before (a ∷ []) acts) (along base (before ++ a ∷ []) acts legal.1 on_later q level has_later)
 
-pub on_along : (g : Graph) (acts : List Act) → IsOnBlocks g → IsOnBlocks (after g acts)
-on_along g [] on = on
-on_along g (a ∷ acts) on = on_along (effect 255 a.event g) acts (on_effect a.event g on)
-
-pub level_stays : (base : Graph) (acts : List Act) (n : ℕ) (q : Tid) (level : ℕ) → IsLegal base acts → IsOnBlocks base
+pub level_stays : (base : Graph) (acts : List Act) (n : ℕ) (q : Tid) (level : ℕ) → IsLegal base acts → IsOnBlocks (state_after base acts n)
     → HasLevel (state_after base acts n) q level → HasLevel (after base acts) q level
 level_stays base acts n q level legal on has =
     subst (λ h. HasLevel (after base h) q level) (take-append-drop n acts)
-    (along base (take n acts) (drop n acts) (rest_after (IsAllowed base) [] acts n legal) (on_along base (take n acts) on) q level has)
+    (along base (take n acts) (drop n acts) (rest_after (IsAllowed base) [] acts n legal) on q level has)

@@ -6,8 +6,14 @@ pub mod FirstInsert
 pub mod IdleVacuum
 pub mod Further
 pub mod Remaining
+pub mod Vacuuming
 pub mod Later
 pub mod NodeWords
 pub mod Asked
 pub mod Copies
 pub mod Lent
+pub mod Steps
+pub mod Lasting
+pub mod Shaping
+pub mod Own
+pub mod Ending

@@ -19,7 +19,7 @@ use Rattle.vec_graph.specs.declared.place.Place.{Place}
 use Rattle.vec_graph.specs.declared.node.Node.{Node}
 use Rattle.vec_graph.specs.declared.graph.Graph.{Graph}
 use Rattle.vec_graph.specs.Graph.{node_at}
-use Rattle.vec_graph.specs.Places.{one_if, last_off, greatest_off, next_off, fresh_place, fresh_at, is_reusable, reused, or_else, together_on, apart_on, fresh_on, fits_one_page, new_place, IsOnBlocks, IsFree}
+use Rattle.vec_graph.specs.Places.{one_if, last_off, greatest_off, next_off, fresh_place, fresh_at, is_reusable, reused, or_else, together_on, apart_on, fresh_on, fits_one_page, place_on, new_place, IsOnBlocks, IsFree}
 use Rattle.vec_graph.specs.Effect.{effect, after, changed, changed_from, joined, linked, relisted, dropped, marked}
 use Rattle.vec_graph.specs.Rules.{IsPlaced}
 
@@ -176,6 +176,32 @@ on_block_list g b level s (Some e) found is n stands =
 pub same_list : (g : Graph) (at : Tid) (level : ℕ) (s : Place) → IsOnBlocks g → IsPlaced g at level s → (n : Node) → node_at g s.at ≡ Some n → n.list_at ≡ s.list_at
 same_list g at level s on (inl is) n stands = on_block_list g at.block level s _ refl (then_some _ _ s is) n stands
 same_list g at level s on (inr is) n stands = absurd (none_new g level s on is.0 n stands)
+
+-- a place on a block is on that block, and one that is used anew is told with its version
+
+on_block_number : (g : Graph) (b level : ℕ) (s : Place) (o : Option (Tid × Node)) → find (is_reusable b level) (fin.entries g.nodes) ≡ o
+    → or_else (reused o) (fresh_on g b level) ≡ Some s → s.at.block ≡ b
+on_block_number g b level s None found is = (fresh_on_numbers g b level s is).0
+on_block_number g b level s (Some e) found is =
+    let test = passes_there tid_cmp tid_cmp_total (fin.entries g.nodes) (is_reusable b level) e found in
+    sym (ap (λ (t : Place). t.at.block) (same_Some _ s is)) ∙ eqb-true _ _ (left _ _ test)
+
+on_block_version : (g : Graph) (b level : ℕ) (s : Place) (o : Option (Tid × Node)) → find (is_reusable b level) (fin.entries g.nodes) ≡ o
+    → or_else (reused o) (fresh_on g b level) ≡ Some s → (n : Node) → node_at g s.at ≡ Some n → n.version ≡ s.version
+on_block_version g b level s None found is n stands = absurd (none_fresh g b level s is n stands)
+on_block_version g b level s (Some e) found is n stands =
+    let spot = same_Some _ s is in
+    let there = fin.get-entries g.nodes e.0 ∙ stands_there tid_cmp tid_cmp_total (fin.entries g.nodes) (is_reusable b level) e (fin.entries_sorted g.nodes) found in
+    let here : node_at g e.0 ≡ Some n = subst (λ (t : Tid). node_at g t ≡ Some n) (sym (ap (λ (t : Place). t.at) spot)) stands in
+    ap (λ (m : Node). m.version) (same_Some _ _ (sym here ∙ there)) ∙ ap (λ (t : Place). t.version) spot
+
+pub placed_block : (g : Graph) (b level : ℕ) (s : Place) → place_on g b level ≡ Some s → s.at.block ≡ b
+placed_block g b level s is = on_block_number g b level s _ refl (then_some _ _ s is)
+
+pub placed_anew : (g : Graph) (b level : ℕ) (s : Place) → place_on g b level ≡ Some s → (n : Node) → node_at g s.at ≡ Some n
+    → (n.list_at ≡ s.list_at) × (n.version ≡ s.version)
+placed_anew g b level s is n stands =
+    (on_block_list g b level s _ refl (then_some _ _ s is) n stands, on_block_version g b level s _ refl (then_some _ _ s is) n stands)
 
 -- ---- what stands on blocks stays there
 

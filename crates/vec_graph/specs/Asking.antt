@@ -1,24 +1,22 @@
 -- What the rules ask of a desk's next event, other than what a step answers by a word: whether another desk's hold stands in the way, whether a node
 -- is as it was read and how many ids it has, whether there is room. What is asked holds on while other desks act.
-use Rattle.std.specs.Prelude.{◌≡◌, ◌≢◌, ℕ, ◌<◌, ◌≤◌, ⊤, List, Bool, length, Option, Some, None}
+use Rattle.std.specs.Prelude.{◌≡◌, ℕ, ◌<◌, ◌≤◌, ⊤, List, Bool, length, Option, Some, None}
+use Rattle.index_sizes.specs.declared.limits.TheConstants.{MOST_IDS}
 use Rattle.index_sizes.specs.Sizes.{slots_of_level}
 use Rattle.vec_names.specs.declared.tid.Tid.{Tid}
 use Rattle.vec_names.specs.Levels.{most_level}
 use Rattle.vec_history.specs.declared.event.Event.{Event}
 use Rattle.vec_history.specs.declared.event.Event.TheVariants as event
 use Rattle.vec_history.specs.declared.event.Act.{Act}
-use Rattle.vec_history.specs.declared.gate.Gate.{Gate}
 use Rattle.vec_history.specs.declared.gate.Gate.TheVariants.{Update}
-use Rattle.vec_history.specs.declared.gate.Hold.{Hold}
-use Rattle.vec_history.specs.declared.gate.Hold.TheVariants.{Shared}
-use Rattle.vec_history.specs.Gates.{Holds, HoldsAs}
+use Rattle.vec_history.specs.Gates.{Holds, AgreesWithOthers}
 use Rattle.vec_history.specs.Phases.{IsUngateAllowed}
 use Rattle.vec_graph.specs.declared.node.Node.{Node}
 use Rattle.vec_graph.specs.declared.graph.Graph.{Graph}
-use Rattle.vec_graph.specs.Graph.{node_at, slot_layer, IsMember}
+use Rattle.vec_graph.specs.Graph.{node_at, slot_layer}
 use Rattle.vec_graph.specs.Effect.{after}
 use Rattle.vec_graph.specs.Knowing.{Knows}
-use Rattle.vec_graph.specs.Rules.{IsThere, IsPlaced, IsPhaseAllowed, IsVacuumEndAllowed, IsCancelAllowed, IsDropAllowed, IsMarkAllowed, IsEntryAllowed, IsHintAllowed}
+use Rattle.vec_graph.specs.Rules.{IsThere, KnowsMembers, IsPlaced, IsPhaseAllowed, IsVacuumEndAllowed, IsCancelAllowed, IsDropAllowed, IsMarkAllowed, IsEntryAllowed, IsHintAllowed}
 
 -- a node stands at the place, deleted or not, of this level and with its list there: as a look told it once
 pub record StandsSo (g : Graph) (at list_at : Tid) (level : ℕ) : Type 0 where
@@ -27,16 +25,12 @@ pub record StandsSo (g : Graph) (at list_at : Tid) (level : ℕ) : Type 0 where
   pub listed : node.list_at ≡ list_at
   pub of_level : node.level ≡ level
 
--- the desk knows each of these members up to its layer
-abbrev pub KnowsEach : Graph → List Act → ℕ → ℕ → List (Option Tid) → Type 0
-KnowsEach base acts desk level lists = (layer : ℕ) (to : Tid) → IsMember base.params.m level lists layer to → Knows base acts desk to layer
-
 pub record IsPutAsked (base : Graph) (acts : List Act) (desk level : ℕ) (bits : List Bool) (lists : List (Option Tid)) : Type 0 where
   pub update : Holds acts desk Update
   pub as_long : length bits ≡ base.params.bits
   pub not_high : level ≤ most_level base.params.m
   pub as_many : length lists ≡ slots_of_level base.params.m level
-  pub known : KnowsEach base acts desk level lists
+  pub known : KnowsMembers base acts desk base.params.m level lists
 
 pub record IsLinkAsked (base : Graph) (acts : List Act) (desk : ℕ) (at list_at : Tid) (slot : ℕ) (to : Tid) : Type 0 where
   pub update : Holds acts desk Update
@@ -50,7 +44,7 @@ pub record IsRelistAsked (base : Graph) (acts : List Act) (desk : ℕ) (at list_
   pub level : ℕ
   pub owner : StandsSo (after base acts) at list_at level
   pub as_many : length lists ≡ slots_of_level base.params.m level
-  pub known : KnowsEach base acts desk level lists
+  pub known : KnowsMembers base acts desk base.params.m level lists
 
 -- Nothing is asked here of settling and of faults, which go by the acts of all desks; and no event of an index of lists may be made.
 abbrev pub IsAsked : Graph → List Act → ℕ → Event → Type 0
@@ -86,11 +80,7 @@ pub record TakesAnId (g : Graph) (at : Tid) (version : ℕ) : Type 0 where
   pub node : Node
   pub there : IsThere g at version node
   pub some : 1 ≤ length node.ids
-  pub room : length node.ids ≤ 9
-
--- no other desk's hold of the gate stands in the way of this one
-abbrev pub IsGateFree : List Act → ℕ → Gate → Hold → Type 0
-IsGateFree acts desk gate hold = (other : ℕ) (theirs : Hold) → other ≢ desk → HoldsAs acts other gate theirs → (hold ≡ Shared) × (theirs ≡ Shared)
+  pub room : length node.ids < MOST_IDS
 
 -- what a step does besides answers that it was not done
 abbrev pub IsGranted : Graph → List Act → ℕ → Event → Type 0
@@ -99,7 +89,7 @@ IsGranted base acts desk (event.Put at list_at version level id bits lists) =
 IsGranted base acts desk (event.Join at version id) = TakesAnId (after base acts) at version
 IsGranted base acts desk (event.Link at list_at version slot to) = IsFresh (after base acts) at version
 IsGranted base acts desk (event.Relist at list_at version lists) = IsFresh (after base acts) at version
-IsGranted base acts desk (event.Gate gate hold) = IsGateFree acts desk gate hold
+IsGranted base acts desk (event.Gate gate hold) = AgreesWithOthers acts desk gate hold
 IsGranted base acts desk _ = ⊤
 
 -- settling and faults go by the acts of all desks

@@ -18,3 +18,9 @@ pub record Knows (base : Graph) (acts : List Act) (desk : ℕ) (at : Tid) (layer
   pub later : since < position
   pub met : position ≤ length acts
   pub was_live : IsLiveAt (state_after base acts position) at layer
+
+-- some desk knows the node up to some layer
+pub record IsKnown (base : Graph) (acts : List Act) (at : Tid) : Type 0 where
+  pub desk : ℕ
+  pub layer : ℕ
+  pub knows : Knows base acts desk at layer

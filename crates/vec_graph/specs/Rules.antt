@@ -1,6 +1,6 @@
 -- Which event a desk may make after a list of acts: one word for each kind of event. A base is the graph that the acts begin at.
 use Rattle.std.specs.Prelude.{◌≡◌, ℕ, ◌+◌, ◌<◌, ◌≤◌, ◌^◌, ◌≢◌, ◌⊎◌, Bool, false, List, length, Option, Some, None}
-use Rattle.index_sizes.specs.declared.limits.TheConstants.{MOST_BLOCKS}
+use Rattle.index_sizes.specs.declared.limits.TheConstants.{MOST_BLOCKS, MOST_IDS}
 use Rattle.index_sizes.specs.Sizes.{slots_of_level}
 use Rattle.vec_names.specs.declared.tid.Tid.{Tid}
 use Rattle.vec_names.specs.Levels.{most_level}
@@ -45,12 +45,11 @@ pub record IsCancelAllowed (base : Graph) (acts : List Act) (desk : ℕ) (stage 
 
 -- ---- nodes
 
--- the desk knows each member of each layer up to that layer
-abbrev pub KnowsMembers : Graph → List Act → ℕ → ℕ → List (Option Tid) → Type 0
-KnowsMembers base acts desk level lists =
-    (layer : ℕ) (to : Tid) → IsMember (after base acts).params.m level lists layer to → Knows base acts desk to layer
+-- the desk knows each member of each layer up to that layer, where the index has this m and the node this level
+abbrev pub KnowsMembers : Graph → List Act → ℕ → ℕ → ℕ → List (Option Tid) → Type 0
+KnowsMembers base acts desk m level lists = (layer : ℕ) (to : Tid) → IsMember m level lists layer to → Knows base acts desk to layer
 
--- The places and the version are those that the element's block gives, or those on new blocks, which stay within 32,768.
+-- The places and the version are those that the element's block gives, or those on new blocks, which stay within the limit.
 abbrev pub IsPlaced : Graph → Tid → ℕ → Place → Type 0
 IsPlaced g at level spot =
     (place_on g at.block level ≡ Some spot) ⊎ ((new_place g level ≡ Some spot) × (g.blocks + new_blocks g level ≤ MOST_BLOCKS))
@@ -62,7 +61,7 @@ pub record IsPutAllowed (base : Graph) (acts : List Act) (desk : ℕ) (at list_a
   pub as_long : length bits ≡ (after base acts).params.bits
   pub not_high : level ≤ most_level (after base acts).params.m
   pub as_many : length lists ≡ slots_of_level (after base acts).params.m level
-  pub known : KnowsMembers base acts desk level lists
+  pub known : KnowsMembers base acts desk (after base acts).params.m level lists
 
 -- the node at a place, which has this version and is not deleted
 pub record IsThere (g : Graph) (at : Tid) (version : ℕ) (n : Node) : Type 0 where
@@ -70,13 +69,13 @@ pub record IsThere (g : Graph) (at : Tid) (version : ℕ) (n : Node) : Type 0 wh
   pub of_version : n.version ≡ version
   pub not_deleted : n.deleted ≡ false
 
--- A further id joins a node that has 1 to 9.
+-- A further id joins a node that has one, and not as many as may be.
 pub record IsJoinAllowed (base : Graph) (acts : List Act) (desk : ℕ) (at : Tid) (version : ℕ) : Type 0 where
   pub update : Holds acts desk Update
   pub node : Node
   pub there : IsThere (after base acts) at version node
   pub some : 1 ≤ length node.ids
-  pub room : length node.ids ≤ 9
+  pub room : length node.ids < MOST_IDS
 
 -- A slot that the node has comes to name a place that the desk knows up to the slot's layer.
 pub record IsLinkAllowed (base : Graph) (acts : List Act) (desk : ℕ) (at list_at : Tid) (version slot : ℕ) (to : Tid) : Type 0 where
@@ -94,7 +93,7 @@ pub record IsRelistAllowed (base : Graph) (acts : List Act) (desk : ℕ) (at lis
   pub there : IsThere (after base acts) at version owner
   pub listed : owner.list_at ≡ list_at
   pub as_many : length lists ≡ length owner.slots
-  pub known : KnowsMembers base acts desk owner.level lists
+  pub known : KnowsMembers base acts desk (after base acts).params.m owner.level lists
 
 -- Ids go that are there, one at least, while the desk's phase Remove stands.
 pub record IsDropAllowed (base : Graph) (acts : List Act) (desk : ℕ) (at : Tid) (version gone : ℕ) : Type 0 where

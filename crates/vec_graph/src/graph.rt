@@ -4,6 +4,7 @@ ghost use Rattle.std.specs.Prelude.{◌≡◌, IfOk};
 
 use crate::node::Node;
 use std::alloc::{AllocError, Global};
+use vec_history::Rules;
 use vec_names::{Mapped, Params, Tid};
 
 /// The state of an HNSW index, apart from how its pages hold it.
@@ -49,4 +50,12 @@ fn nodes_of(nodes: &Mapped<Node>, alloc: Global) -> Result<Mapped<Node>, AllocEr
         copy.insert(*place, twin)?;
     }
     Ok(copy)
+}
+
+impl Rules for Graph {
+    ghost use Rattle.vec_graph.specs.Legal.{IsAllowed};
+
+    ghost allows = { λ base acts act. IsAllowed base acts act };
+
+    ghost allows_gates = { λ base acts desk gate hold may. may };
 }

@@ -37,10 +37,13 @@ fn empty(alloc: Global) -> Graph
 fn laws_before_any_act(rt: HostRuntime) {
     let base = empty(rt.alloc());
     let acts: [Act; 0] = [];
-    law_cut(&base, &acts);
-    law_alone(&base, &acts);
     law_entries(&base, &acts);
     law_places(&base, &acts);
+    law_shaped(&base, &acts);
+    law_lasting(&base, &acts);
+    law_own(&base, &acts);
+    law_vacuum(&base, &acts);
+    law_told(&base, &acts);
     law_levels(&base, &acts);
     law_later(&base, &acts);
     law_asked(&base, &acts);

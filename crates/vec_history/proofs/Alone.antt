@@ -1,10 +1,12 @@
 -- One holder alone.
-use Rattle.std.proofs.Common.{◌≡◌, ◌≢◌, inl, inr, ℕ, ◌<◌, List, take, slice_get, sym, ap, subst, ◌∙◌}
+use Rattle.std.proofs.Common.{◌≡◌, ◌≢◌, inl, inr, ℕ, ◌<◌, ◌≤◌, List, take, slice_get, refl, sym, ap, subst, ◌∙◌, arith}
 use Rattle.std.proofs.lemmas.Option.{same_Some}
 use Rattle.vec_history.specs.declared.event.Act.{Act}
+use Rattle.vec_history.specs.declared.event.Event.TheVariants as event
 use Rattle.vec_history.specs.declared.gate.Gate.{Gate}
 use Rattle.vec_history.specs.declared.gate.Hold.{Hold}
 use Rattle.vec_history.specs.declared.gate.Hold.TheVariants.{Shared, Alone}
+use Rattle.vec_history.specs.Acts.{IsActAt}
 use Rattle.vec_history.specs.Gates.{HoldsSince, HoldsAs, AreGatesAllowed}
 use Rattle.list_values.proofs.Parts.{in_part, in_whole, in_order}
 
@@ -32,4 +34,21 @@ one_alone acts allowed gate hold desk other ne d o =
       | inr (inl same) ↦ ne (ap (λ (a : Act). a.desk) (same_Some _ _ (sym o.1.taken ∙ ap (slice_get acts) (sym same) ∙ d.1.taken)))
       | inr (inr behind) ↦
           not_shared ((allowed d.0 desk gate Alone d.1.taken).beside other hold ne (o.0, held_before acts other gate hold o.0 d.0 behind o.1)).0
+    ]
+
+-- who holds a gate that a desk once took alone took it not before that
+pub not_before_alone : (acts : List Act) → AreGatesAllowed acts → (gate : Gate) (hold : Hold) (desk other j k : ℕ) → IsActAt acts k other (event.Gate gate Alone)
+    → HoldsSince acts desk gate hold j → k ≤ j
+not_before_alone acts allowed gate hold desk other j k taken s =
+    elim (in_order j k) as (λ _. k ≤ j) [
+      | inl before ↦
+          let rule = allowed k other gate Alone taken in
+          let held = held_before acts desk gate hold j k before s in
+          elim (in_order desk other) as (λ _. k ≤ j) [
+            | inl less ↦ absurd (not_shared (rule.beside desk hold (λ e. absurd (omega arith)) (j, held)).0)
+            | inr (inl same) ↦ absurd (s.kept k _ before taken (sym same, refl))
+            | inr (inr greater) ↦ absurd (not_shared (rule.beside desk hold (λ e. absurd (omega arith)) (j, held)).0)
+          ]
+      | inr (inl same) ↦ omega arith
+      | inr (inr behind) ↦ omega arith
     ]

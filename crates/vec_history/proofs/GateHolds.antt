@@ -5,7 +5,8 @@ use Rattle.vec_history.specs.declared.gate.Gate.{Gate}
 use Rattle.vec_history.specs.declared.gate.Hold.{Hold}
 use Rattle.vec_history.specs.declared.gate.Hold.TheVariants.{Shared}
 use Rattle.vec_history.specs.Gates.{HoldsSince}
-use Rattle.vec_history.specs.Deciding.{AgreesWith, AgreesWithOthers}
+use Rattle.vec_history.specs.Gates.{AgreesWithOthers}
+use Rattle.vec_history.specs.Deciding.{AgreesWith}
 use Rattle.vec_history.proofs.Scans.{EachOf}
 use Rattle.vec_history.proofs.OneAtATime.{one_hold}
 

@@ -4,3 +4,5 @@ pub mod Scans
 pub mod GateHolds
 pub mod Removing
 pub mod Prefixes
+pub mod ByActs
+pub mod OneMore

@@ -4,10 +4,6 @@ use Rattle.std.proofs.lemmas.Option.{slice_get_within, same_Some}
 use Rattle.vec_history.specs.declared.event.Act.{Act}
 use Rattle.list_values.proofs.Parts.{in_order}
 
--- no act of number i or later is one of these
-abbrev pub NoneFrom : List Act → ℕ → (Act → Type 0) → Type 0
-NoneFrom acts i P = (j : ℕ) (a : Act) → i ≤ j → slice_get acts j ≡ Some a → P a → ⊥
-
 -- each of the first i elements is one of these
 abbrev pub EachBelow : {X : Type 0} → (X → Type 0) → List X → ℕ → Type 0
 EachBelow {X} P xs i = (k : ℕ) (x : X) → k < i → slice_get xs k ≡ Some x → P x

@@ -1,5 +1,5 @@
 -- Acts of a history by their numbers. An act's number counts the acts before it; a position n is the state after the first n acts.
-use Rattle.std.specs.Prelude.{◌≡◌, ℕ, ◌<◌, List, slice_get, Some}
+use Rattle.std.specs.Prelude.{◌≡◌, ℕ, ◌<◌, ◌≤◌, List, slice_get, Some}
 use Rattle.vec_history.specs.declared.event.Event.{Event}
 use Rattle.vec_history.specs.declared.event.Act.{Act}
 
@@ -13,3 +13,7 @@ IsActAt acts k desk e = slice_get acts k ≡ Some (act_of desk e)
 -- no act after that of number k is one of these
 abbrev pub NoneAfter : List Act → ℕ → (Act → Type 0) → Type 0
 NoneAfter acts k P = (j : ℕ) (a : Act) → k < j → slice_get acts j ≡ Some a → P a → ⊥
+
+-- no act of number i or later is one of these
+abbrev pub NoneFrom : List Act → ℕ → (Act → Type 0) → Type 0
+NoneFrom acts i P = (j : ℕ) (a : Act) → i ≤ j → slice_get acts j ≡ Some a → P a → ⊥

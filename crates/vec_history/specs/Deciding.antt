@@ -1,5 +1,5 @@
--- Words of the functions that decide the rules' words. No rule is stated by these.
-use Rattle.std.specs.Prelude.{◌≡◌, ◌≢◌, ℕ, ◌<◌, ◌≤◌, ⊤, List, slice_get, Some}
+-- Helper words of the functions that decide: no rule is stated by these, and no other definition cites them.
+use Rattle.std.specs.Prelude.{◌≡◌, ℕ, ◌<◌, ◌≤◌, ⊤, List, slice_get, Some}
 use Rattle.vec_history.specs.declared.event.Event.{Event}
 use Rattle.vec_history.specs.declared.event.Event.TheVariants as event
 use Rattle.vec_history.specs.declared.event.Act.{Act}
@@ -47,10 +47,6 @@ IsActDrop a = IsDrop a.event
 -- this hold, and that of the other desk if it has one, are Shared
 abbrev pub AgreesWith : List Act → ℕ → Gate → Hold → Type 0
 AgreesWith acts other gate hold = (theirs : Hold) → HoldsAs acts other gate theirs → (hold ≡ Shared) × (theirs ≡ Shared)
-
--- this hold, and those of the other desks if any has one, are Shared
-abbrev pub AgreesWithOthers : List Act → ℕ → Gate → Hold → Type 0
-AgreesWithOthers acts desk gate hold = (other : ℕ) (theirs : Hold) → other ≢ desk → HoldsAs acts other gate theirs → (hold ≡ Shared) × (theirs ≡ Shared)
 
 -- ---- counts
 

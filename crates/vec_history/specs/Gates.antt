@@ -25,10 +25,14 @@ HoldsAs acts desk gate hold = (k : ℕ) × HoldsSince acts desk gate hold k
 abbrev pub Holds : List Act → ℕ → Gate → Type 0
 Holds acts desk gate = (hold : Hold) × HoldsAs acts desk gate hold
 
--- The desk does not hold the gate; and either no other desk does, or this hold and all others are Shared.
+-- no other desk holds the gate, or this hold and all others are Shared
+abbrev pub AgreesWithOthers : List Act → ℕ → Gate → Hold → Type 0
+AgreesWithOthers acts desk gate hold = (other : ℕ) (theirs : Hold) → other ≢ desk → HoldsAs acts other gate theirs → (hold ≡ Shared) × (theirs ≡ Shared)
+
+-- The desk does not hold the gate, and the hold agrees with those of the other desks.
 pub record IsGateAllowed (acts : List Act) (desk : ℕ) (gate : Gate) (hold : Hold) : Type 0 where
   pub not_held : Holds acts desk gate → ⊥
-  pub beside : (other : ℕ) (theirs : Hold) → other ≢ desk → HoldsAs acts other gate theirs → (hold ≡ Shared) × (theirs ≡ Shared)
+  pub beside : AgreesWithOthers acts desk gate hold
 
 -- each taking of a gate was allowed after the acts before it
 abbrev pub AreGatesAllowed : List Act → Type 0

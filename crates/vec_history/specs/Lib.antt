@@ -1,7 +1,9 @@
+-- the definitions
 pub mod Acts
 pub mod Gates
 pub mod Phases
 pub mod Settling
-pub mod Deciding
 pub mod Legal
 pub mod Judging
+-- helper words of deciders
+pub mod Deciding

@@ -62,6 +62,12 @@ pub record IsRemoved (acts : List Act) (desk position : ℕ) : Type 0 where
   pub drops_before : NoneAfter acts barrier (λ a. IsDrop a.event)
   pub here : position ≡ barrier + 1
 
+-- The act of this number took Update alone, whether or not it was given back since, and no Drop came after it.
+pub record IsBehindDrops (acts : List Act) (k : ℕ) : Type 0 where
+  pub desk : ℕ
+  pub taken : IsActAt acts k desk (event.Gate Update Alone)
+  pub no_drop : NoneAfter acts k (λ a. IsDrop a.event)
+
 -- ---- rules
 
 -- The desk holds the gate; the gate of vacuums stays held while a phase stands.

@@ -1,8 +1,9 @@
 //! Which desk holds which gate, and whether a gate may be taken.
 
 ghost use Rattle.std.specs.Prelude.{◌↔◌, IsTrue, IfSome, IfNone};
-ghost use Rattle.vec_history.specs.Gates.{IsOfGate, HoldsSince, Holds, IsGateAllowed};
-ghost use Rattle.vec_history.specs.Deciding.{AgreesWith, AgreesWithOthers, IsDeskOfGate, IsLast, NoneOf};
+ghost use Rattle.vec_history.specs.declared.gate.Hold.TheVariants.{Alone};
+ghost use Rattle.vec_history.specs.Gates.{IsOfGate, HoldsSince, Holds, HoldsAs, AgreesWithOthers, IsGateAllowed};
+ghost use Rattle.vec_history.specs.Deciding.{AgreesWith, IsDeskOfGate, IsLast, NoneOf};
 
 use crate::{Act, Event, Gate, Hold};
 
@@ -42,6 +43,23 @@ pub fn hold_of(acts: &[Act], desk: u32, gate: Gate) -> Option<(Hold, usize)>
     match &acts[k].event {
         Event::Gate { gate: _, hold } => Some((*hold, k)),
         _ => None,
+    }
+}
+
+/// Whether the desk holds the gate after these acts, in whichever way.
+pub fn holds(acts: &[Act], desk: u32, gate: Gate) -> bool
+    ensures { IsTrue result ↔ Holds acts.now desk gate }
+{
+    hold_of(acts, desk, gate).is_some()
+}
+
+/// Whether the desk holds the gate alone after these acts.
+pub fn holds_alone(acts: &[Act], desk: u32, gate: Gate) -> bool
+    ensures { IsTrue result ↔ HoldsAs acts.now desk gate Alone }
+{
+    match hold_of(acts, desk, gate) {
+        Some((hold, _)) => hold == Hold::Alone,
+        None => false,
     }
 }
 

@@ -7,8 +7,9 @@ use vec_names::Tid;
 #[test]
 fn laws_before_any_act() {
     let acts: [Act; 0] = [];
-    law_alone(&acts);
     law_one_at_a_time(&acts);
+    law_kept(&acts);
+    law_one_more(&acts, &act(1, Event::VacuumEnd));
 }
 
 fn gate(desk: u32, gate: Gate, hold: Hold) -> Act {

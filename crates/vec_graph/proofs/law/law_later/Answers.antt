@@ -2,4 +2,4 @@ use Rattle.vec_graph.proofs.Later.{later}
 use Rattle.vec_graph.proofs.law.law_later.Goals as goal
 
 pub returns : goal.returns
-returns c = later c.args.base.now c.args.acts.now c.requires.legal c.requires.on_blocks
+returns c = later c.args.base.now c.args.acts.now c.requires

@@ -1,11 +1,11 @@
 use Rattle.vec_graph.specs.Effect.{after}
-use Rattle.vec_graph.proofs.Placing.{on_blocks_after, free_place}
+use Rattle.vec_graph.proofs.Placing.{free_place}
+use Rattle.vec_graph.proofs.Lasting.{on_after}
 use Rattle.vec_graph.proofs.law.law_places.Goals as goal
 
 pub returns-clause-on_blocks : goal.returns-clause-on_blocks
-returns-clause-on_blocks c = on_blocks_after c.args.base.now c.args.acts.now c.requires
+returns-clause-on_blocks c = λ a. on_after c.args.base.now c.args.acts.now a c.requires
 
 pub returns-clause-free : goal.returns-clause-free
 returns-clause-free c = λ desk version level at list_at bits lists may.
-    free_place (after c.args.base.now c.args.acts.now) at level (record { at = at; list_at = list_at; version = version })
-    (on_blocks_after c.args.base.now c.args.acts.now c.requires) may.placed
+    free_place (after c.args.base.now c.args.acts.now) at level (record { at = at; list_at = list_at; version = version }) c.requires may.placed

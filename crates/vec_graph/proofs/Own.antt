@@ -1,0 +1,85 @@
+-- What a desk has by its own acts, and what lasts of it.
+use Rattle.std.proofs.Common.{◌≡◌, ◌≢◌, inl, inr, ℕ, ◌+◌, ◌<◌, ◌≤◌, Bool, List, [], ◌∷◌, ◌++◌, take, drop, length, slice_get, Option, Some, refl, sym, ap, subst, ◌∙◌, cond, arith, false}
+use Rattle.std.specs.FinMap as fin
+use Rattle.std.specs.Ordering.{is_eq}
+use Rattle.std.specs.Cmp.{tied_itself}
+use Rattle.std.proofs.lemmas.List.{length-take-le, take_all}
+use Rattle.std.proofs.lemmas.Option.{slice_get_within}
+use Rattle.list_values.proofs.Parts.{in_whole}
+use Rattle.vec_names.specs.declared.tid.Tid.{Tid}
+use Rattle.vec_names.specs.declared.heap_id.HeapId.{HeapId}
+use Rattle.vec_names.specs.Order.{tid_cmp, tid_cmp_total}
+use Rattle.vec_history.specs.declared.event.Event.TheVariants as event
+use Rattle.vec_history.specs.declared.event.Act.{Act}
+use Rattle.vec_history.specs.declared.gate.Gate.TheVariants.{Update}
+use Rattle.vec_history.specs.declared.gate.Hold.{Hold}
+use Rattle.vec_history.specs.declared.gate.Hold.TheVariants.{Alone}
+use Rattle.vec_history.specs.Acts.{act_of, NoneFrom}
+use Rattle.vec_history.specs.Gates.{IsOfGate, HoldsAs, HoldsSince}
+use Rattle.vec_history.proofs.OneMore.{hold_kept, hold_on, one_longer}
+use Rattle.vec_graph.specs.declared.node.Node.{Node}
+use Rattle.vec_graph.specs.declared.graph.Graph.{Graph}
+use Rattle.vec_graph.specs.Graph.{node_at, IsLive, IsLiveAt}
+use Rattle.vec_graph.specs.Places.{IsOnBlocks}
+use Rattle.vec_graph.specs.Effect.{after, state_after}
+use Rattle.vec_graph.specs.Knowing.{Knows}
+use Rattle.vec_graph.specs.Rules.{IsPutAllowed}
+use Rattle.vec_graph.specs.Legal.{IsAllowed, IsLegal}
+use Rattle.vec_graph.proofs.Levels.{after_append}
+use Rattle.vec_graph.proofs.Lasting.{states_in}
+use Rattle.vec_graph.proofs.Later.{live_before}
+
+-- what a desk knows it knows until its own next act of Update
+pub knows_kept : (base : Graph) (acts : List Act) (n desk : ℕ) (at : Tid) (layer : ℕ) → n ≤ length acts
+    → NoneFrom acts n (λ a. (a.desk ≡ desk) × IsOfGate Update a.event) → Knows base (take n acts) desk at layer → Knows base acts desk at layer
+knows_kept base acts n desk at layer met none k =
+    let long : length (take n acts) ≡ n = length-take-le n acts met in
+    record {
+      hold = k.hold;
+      since = k.since;
+      holds = hold_kept acts n desk Update k.hold k.since none k.holds;
+      position = k.position;
+      later = k.later;
+      met = omega (arith, k.met, long, met);
+      was_live = subst (λ (g : Graph). IsLiveAt g at layer) (states_in base acts n k.position (omega (arith, k.met, long))) k.was_live;
+    }
+
+-- a node that the desk puts it knows up to its level
+module _ (base : Graph) (acts : List Act) (desk : ℕ) (at list_at : Tid) (version level : ℕ) (id : HeapId) (bits : List Bool) (lists : List (Option Tid))
+    (may : IsPutAllowed base acts desk at list_at version level bits lists) where
+  abbrev put : Act
+  put = act_of desk (event.Put at list_at version level id bits lists)
+
+  new : Node
+  new = record { level = level; version = version; deleted = false; bits = bits; ids = id ∷ []; list_at = list_at; slots = lists }
+
+  there : fin.get (fin.insert (after base acts).nodes at new) at ≡ Some new
+  there = fin.get-insert tid_cmp_total (after base acts).nodes at new at ∙ ap (λ r. cond (is_eq r) (Some new) (fin.get (after base acts).nodes at)) (tied_itself tid_cmp_total at)
+
+  pub put_known : Knows base (acts ++ put ∷ []) desk at level
+  unfolding new
+  put_known =
+      let since = may.update.1.0 in
+      let holds = may.update.1.1 in
+      let low : since < length acts = slice_get_within acts since _ holds.taken in
+      let all : state_after base (acts ++ put ∷ []) (length (acts ++ put ∷ [])) ≡ after base (acts ++ put ∷ []) = ap (after base) (take_all _ (acts ++ put ∷ []) (omega arith)) in
+      let live : IsLiveAt (after base (acts ++ put ∷ [])) at level =
+      subst (λ (g : Graph). IsLiveAt g at level) (sym (after_append base acts (put ∷ [])))
+      (record { node = new; stands = there; live = record { not_deleted = refl; has_ids = λ e. absurd cc }; reaches = omega arith }) in
+      record {
+        hold = may.update.0;
+        since = since;
+        holds = hold_on acts put desk Update may.update.0 since (λ same of_gate. of_gate) holds;
+        position = length (acts ++ put ∷ []);
+        later = omega (arith, low, one_longer acts put);
+        met = omega arith;
+        was_live = subst (λ (g : Graph). IsLiveAt g at level) (sym all) live;
+      }
+
+-- while a desk holds Update alone no other desk makes a node live
+pub no_more_live : (base : Graph) (acts : List Act) → IsLegal base acts → IsOnBlocks (after base acts) → (a : Act) → IsAllowed base acts a → (desk : ℕ) → a.desk ≢ desk
+    → HoldsAs acts desk Update Alone → (q : Tid) → IsLiveAt (after base (acts ++ a ∷ [])) q 0 → IsLiveAt (after base acts) q 0
+no_more_live base acts legal on a may desk other alone q l =
+    let now = subst (λ (g : Graph). IsLiveAt g q 0) (after_append base acts (a ∷ [])) l in
+    let was = live_before base acts legal on a may desk other alone q (record { node = now.node; stands = now.stands; is = now.live }) in
+    record { node = was.node; stands = was.stands; live = was.is; reaches = omega arith }
