@@ -7,9 +7,9 @@ ghost use Rattle.vec_names.specs.Params.{IsInRange};
 ghost use Rattle.graph_pages.specs.Standing.{item_in, pointers, is_node_item, IsNodePage};
 ghost use Rattle.graph_pages.specs.Naming.{Tells};
 
-use index_sizes::{LAST_BLOCK, MOST_BLOCKS};
 use crate::places::{page_at, place_on};
 use crate::rules::is_node_item;
+use index_sizes::{LAST_BLOCK, MOST_BLOCKS};
 use page_bytes::Page;
 use page_redo::holds_nodes;
 use vec_names::{Mapped, Params};

@@ -9,8 +9,8 @@ ghost use Rattle.page_redo.specs.Items.{in_whole};
 ghost use Rattle.graph_pages.specs.Standing.{element_in, links_in, node_in, node_with};
 ghost use Rattle.graph_pages.specs.Filling.{IsFilledTo, with_node};
 
-use index_sizes::{LAST_BLOCK, MOST_BLOCKS};
 use crate::places::{item_in, place_on};
+use index_sizes::{LAST_BLOCK, MOST_BLOCKS};
 use page_bytes::Page;
 use std::alloc::{AllocError, Global};
 use vec_graph::Node;

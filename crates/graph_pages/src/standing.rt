@@ -3,13 +3,13 @@
 ghost use Rattle.std.specs.Prelude.{◌≡◌, ◌≤◌, length};
 ghost use Rattle.graph_pages.specs.Standing.{IsGraphOf};
 
-use index_sizes::MOST_BLOCKS;
 use crate::blocks::first_broken;
 use crate::graph_fault::GraphFault;
 use crate::naming::named_places;
 use crate::nodes::nodes_of;
 use crate::places::root;
 use crate::rules::is_root;
+use index_sizes::MOST_BLOCKS;
 use page_bytes::Page;
 use std::alloc::Global;
 use vec_graph::Graph;

@@ -9,7 +9,6 @@ ghost use Rattle.page_redo.specs.Items.{head_changed, links_changed};
 ghost use Rattle.page_redo.specs.Roles.{on_graph, marked, emptied, may_put, put, put_element, put_links, grown, chained};
 ghost use Rattle.page_redo.specs.Redo.{Becomes};
 
-use index_sizes::{MOST_ITEM, item_need, next_version};
 use crate::changes::put_no_slots;
 use crate::fault::RedoFault;
 use crate::graph::mark;
@@ -22,6 +21,7 @@ use crate::put::{
     place_element, place_links,
 };
 use bit_code::Bits;
+use index_sizes::{MOST_ITEM, item_need, next_version};
 use page_bytes::Page;
 use vec_names::{HeapId, Params};
 

@@ -10,8 +10,8 @@ ghost use Rattle.vec_tuples.specs.declared.meta.Meta.{Meta as MetaTuple};
 ghost use Rattle.vec_tuples.specs.Spelling.{IsMeta, element_bytes, element_with, links_bytes, meta_bytes, centre_bytes, centre_with, links_with};
 ghost use Rattle.page_redo.specs.Items.{with_item, with_head};
 
-use index_sizes::MOST_SLOTS;
 use bit_code::Bits;
+use index_sizes::MOST_SLOTS;
 use page_bytes::{ItemChange, Page};
 use vec_names::Tid;
 use vec_tuples::{

@@ -6,12 +6,12 @@ ghost use Rattle.page_redo.specs.Items.{head_changed, links_changed, meta_change
 ghost use Rattle.page_redo.specs.Roles.{on_graph, on_meta, joined, dropped, marked, linked, relisted, emptied, entered, hinted, is_level};
 ghost use Rattle.page_redo.specs.Redo.{at_one, Becomes};
 
-use index_sizes::{MOST_BLOCKS, next_version};
 use crate::changes::{put_head, put_meta, put_no_slots, put_slot, put_slots};
 use crate::fault::RedoFault;
 use crate::heads::{dropped, is_current, joined, marked};
 use crate::items::{head_at, links_head_at, meta_of};
 use crate::kinds::{is_graph, is_on_graph, is_on_meta};
+use index_sizes::{MOST_BLOCKS, next_version};
 use page_bytes::Page;
 use vec_names::{HeapId, Params, Tid};
 use vec_tuples::Meta;

@@ -10,13 +10,13 @@ ghost use Rattle.page_redo.specs.Items.{added, centre_at};
 ghost use Rattle.page_redo.specs.Roles.{entry_added, grown, chained, rises, entries_dropped, list_block, list_offset, aimed};
 ghost use Rattle.page_redo.specs.Redo.{at_one, Becomes};
 
-use index_sizes::{MOST_ITEM, centres_on_page, entry_size};
 use crate::changes::put_aim;
 use crate::fault::RedoFault;
 use crate::items::centre_head_at;
 use crate::kinds::{is_on_entries, is_on_lists};
 use crate::put::append;
 use bit_code::Bits;
+use index_sizes::{MOST_ITEM, centres_on_page, entry_size};
 use page_bytes::Page;
 use vec_names::{HeapId, Params};
 use vec_tuples::fill_entry;

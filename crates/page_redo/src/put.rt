@@ -11,13 +11,13 @@ ghost use Rattle.page_redo.specs.Items.{added, element_at, links_at};
 ghost use Rattle.page_redo.specs.Roles.{if_so, put, put_element, put_links, is_node, is_old_element, are_old_links};
 ghost use Rattle.page_redo.specs.Redo.{Becomes};
 
-use index_sizes::{MOST_ITEM, MOST_SLOTS, element_size, links_size, slots_of_level};
 use crate::changes::{put_element_over, put_links_over};
 use crate::fault::RedoFault;
 use crate::items::{head_at, links_head_at};
 use crate::kinds::is_on_graph;
 use arrayvec::ArrayVec;
 use bit_code::Bits;
+use index_sizes::{MOST_ITEM, MOST_SLOTS, element_size, links_size, slots_of_level};
 use page_bytes::Page;
 use vec_names::{HeapId, Params, Tid};
 use vec_tuples::{ElementHead, fill_element, fill_links};
