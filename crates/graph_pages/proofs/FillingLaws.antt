@@ -12,8 +12,8 @@ use Rattle.vec_names.specs.Order.{tid_cmp}
 use Rattle.page_bytes.specs.Content.{Content, item_at}
 use Rattle.vec_graph.specs.declared.node.Node.{Node}
 use Rattle.vec_tuples.specs.Reading.{element}
-use Rattle.page_redo.specs.Items.{in_whole}
-use Rattle.page_redo.specs.Roles.{if_so}
+use Rattle.page_redo.specs.PageTuples.{in_whole}
+use Rattle.page_redo.specs.PageChanges.{if_so}
 use Rattle.graph_pages.specs.Standing.{item_in, links_in, node_in, node_with as made_of, is_place}
 use Rattle.graph_pages.specs.Filling.{is_passed, IsFilledTo, with_node}
 use Rattle.graph_pages.proofs.PlaceTests.{same_if_place, place_itself, get_inserted}

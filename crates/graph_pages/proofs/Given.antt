@@ -10,7 +10,7 @@ use Rattle.std.proofs.lemmas.Option.{slice_get_within, get_or_from_slice_get}
 use Rattle.byte_fields.proofs.EachField.{some_is}
 use Rattle.byte_fields.proofs.FieldLaws.{AreBytes}
 use Rattle.page_bytes.specs.Content.{Content, IsItem, IsPage, item_at}
-use Rattle.page_redo.specs.Roles.{when, if_so}
+use Rattle.page_redo.specs.PageChanges.{when, if_so}
 
 pub then_is : {A B : Type 0} (f : A → Option B) (o : Option A) (b : B) → option_and_then f o ≡ Some b
     → (a : A) × (o ≡ Some a) × (f a ≡ Some b)

@@ -19,8 +19,8 @@ use Rattle.vec_tuples.proofs.ElementLaws.{element_field}
 use Rattle.vec_graph.specs.declared.node.Node.{Node}
 use Rattle.vec_graph.specs.declared.graph.Graph.{Graph}
 use Rattle.vec_graph.specs.Effect.{changed}
-use Rattle.page_redo.specs.Items.{in_whole, with_item, with_head, head_changed, element_at, is_graph, is_graph_page}
-use Rattle.page_redo.specs.Roles.{Role, on_graph, is_current, joined, dropped}
+use Rattle.page_redo.specs.PageTuples.{in_whole, with_item, with_head, head_changed, element_at, is_graph, is_graph_page}
+use Rattle.page_redo.specs.PageChanges.{PageChange, on_graph, is_current, joined, dropped}
 use Rattle.page_redo.specs.Redo.{at_one, numbered}
 use Rattle.graph_pages.specs.Standing.{node_with as made_of, Stands}
 use Rattle.graph_pages.proofs.Given.{then_is, map_is, if_is, when_is, item_bytes}
@@ -75,7 +75,7 @@ node_is to e k rows l =
 -- ---- redo
 
 -- an event that touches one block fits only that block's page
-pub one_place : (pages : List Content) (h : Graph) (a number block : ℕ) (role : Role) (page after : Content)
+pub one_place : (pages : List Content) (h : Graph) (a number block : ℕ) (role : PageChange) (page after : Content)
     → slice_get pages block ≡ Some page → option_map (numbered number) (at_one a role block page) ≡ Some after
     → ((d : Content) → slice_get pages a ≡ Some page → role page ≡ Some d → Stands (slice_set pages a (numbered number d)) h) → Stands (slice_set pages block after) h
 one_place pages h a number block role page after there is effect =

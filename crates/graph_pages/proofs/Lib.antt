@@ -1,5 +1,6 @@
 pub mod PlaceTests
-pub mod NamingLaws
+pub mod PointerLaws
+pub mod DecodedItems
 pub mod SlotTests
 pub mod PagePlaces
 pub mod FillingLaws

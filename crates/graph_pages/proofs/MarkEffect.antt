@@ -24,8 +24,8 @@ use Rattle.vec_graph.specs.declared.node.Node.{Node}
 use Rattle.vec_graph.specs.declared.graph.Graph.{Graph}
 use Rattle.vec_graph.specs.Graph.{node_at}
 use Rattle.vec_graph.specs.Effect.{marked as node_marked, changed}
-use Rattle.page_redo.specs.Items.{in_whole, with_item, with_head, head_changed, links_changed, element_at, links_at, is_graph, is_graph_page}
-use Rattle.page_redo.specs.Roles.{Role, on_graph, is_current, marked, emptied}
+use Rattle.page_redo.specs.PageTuples.{in_whole, with_item, with_head, head_changed, links_changed, element_at, links_at, is_graph, is_graph_page}
+use Rattle.page_redo.specs.PageChanges.{PageChange, on_graph, is_current, marked, emptied}
 use Rattle.page_redo.specs.Redo.{at_two, numbered}
 use Rattle.graph_pages.specs.Standing.{element_in, links_in, item_in, is_slot_below, node_with as made_of, Stands}
 use Rattle.graph_pages.specs.Effects.{AreRedone}
@@ -219,15 +219,15 @@ two_set pages after a b c d e f there list_there first second others =
       ]
     ]
 
-two_same : (a b block : ℕ) (first second : Role) (c : Content) → a ≡ block → b ≡ block
+two_same : (a b block : ℕ) (first second : PageChange) (c : Content) → a ≡ block → b ≡ block
     → at_two a first b second block c ≡ option_and_then second (first c)
 two_same a b block first second c is also = rw (eq-eqb a block is, eq-eqb b block also) refl
 
-two_first : (a b block : ℕ) (first second : Role) (c : Content) → a ≡ block → (b ≡ block → ⊥)
+two_first : (a b block : ℕ) (first second : PageChange) (c : Content) → a ≡ block → (b ≡ block → ⊥)
     → at_two a first b second block c ≡ first c
 two_first a b block first second c is other = rw (eq-eqb a block is, ne_eqb b block other) refl
 
-two_second : (a b block : ℕ) (first second : Role) (c : Content) → (a ≡ block → ⊥) → b ≡ block
+two_second : (a b block : ℕ) (first second : PageChange) (c : Content) → (a ≡ block → ⊥) → b ≡ block
     → at_two a first b second block c ≡ second c
 two_second a b block first second c other is = rw (ne_eqb a block other, eq-eqb b block is) refl
 
@@ -338,10 +338,10 @@ module _ (pages : List Content) (g : Graph) (at list_at : Tid) (version wrap num
         (λ good. none_below (length pages) (length second.l.tids)) (node_marked wrap) refl
 
   module _ (after : List Content) (are : AreRedone p wrap number (Mark at list_at version) pages after) where
-    abbrev first : Role
+    abbrev first : PageChange
     first = on_graph p (head_changed (marked wrap version) p at.off)
 
-    abbrev second : Role
+    abbrev second : PageChange
     second = on_graph p (links_changed (emptied wrap version) p list_at.off)
 
     -- what redo made of the page of a touched block

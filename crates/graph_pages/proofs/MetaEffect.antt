@@ -16,8 +16,8 @@ use Rattle.vec_tuples.proofs.ElementLaws.{element_field}
 use Rattle.vec_graph.specs.declared.node.Node.{Node}
 use Rattle.vec_graph.specs.declared.graph.Graph.{Graph}
 use Rattle.vec_graph.specs.Graph.{HasLevel}
-use Rattle.page_redo.specs.Items.{in_whole, meta_at, with_item, meta_changed, is_graph, is_meta_page}
-use Rattle.page_redo.specs.Roles.{on_meta, entered, hinted, is_level}
+use Rattle.page_redo.specs.PageTuples.{in_whole, meta_at, with_item, meta_changed, is_graph, is_meta_page}
+use Rattle.page_redo.specs.PageChanges.{on_meta, entered, hinted, is_level}
 use Rattle.page_redo.specs.Redo.{at_one, numbered}
 use Rattle.graph_pages.specs.Standing.{item_in, element_in, head_in, links_in, root_on, root, of_graph, is_of_level, is_entry, is_element, pointers, is_list, is_node_item, node_with as made_of, node_in, Stands}
 use Rattle.byte_fields.proofs.EachField.{some_is}

@@ -13,7 +13,7 @@ use Rattle.vec_tuples.specs.declared.element.ElementHead.{ElementHead}
 use Rattle.vec_tuples.specs.declared.links.Links.{Links}
 use Rattle.vec_graph.specs.declared.node.Node.{Node}
 use Rattle.vec_graph.specs.declared.graph.Graph.{Graph}
-use Rattle.page_redo.specs.Items.{is_meta_page, is_graph_page}
+use Rattle.page_redo.specs.PageTuples.{is_meta_page, is_graph_page}
 use Rattle.graph_pages.specs.Standing.{head_in, links_in, root_on, root, is_of_level, is_entry, is_root, is_list_of, is_element, pointers, is_list, is_node_item, node_in, Stands}
 use Rattle.graph_pages.proofs.PageSets.{IsChangedAt, node_page}
 use Rattle.graph_pages.proofs.StandingLaws.{root_is, root_holds, node_pages, stands_from}

@@ -12,7 +12,7 @@ use Rattle.vec_names.specs.Places.{same_tid}
 use Rattle.byte_fields.specs.Reading.{Reader}
 use Rattle.byte_fields.proofs.EachField.{some_is}
 use Rattle.page_bytes.specs.Content.{Content, item_at}
-use Rattle.page_redo.specs.Items.{in_whole, with_item, is_graph_page}
+use Rattle.page_redo.specs.PageTuples.{in_whole, with_item, is_graph_page}
 use Rattle.page_redo.specs.Redo.{numbered}
 use Rattle.graph_pages.specs.Standing.{item_in, read_in, pointer_of, pointers_on, pointers, is_place, is_node_item, IsNodePage}
 use Rattle.page_redo.proofs.Others.{set_apart}

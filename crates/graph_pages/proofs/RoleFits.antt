@@ -20,8 +20,8 @@ use Rattle.vec_tuples.proofs.ElementLaws.{element_field}
 use Rattle.vec_graph.specs.declared.node.Node.{Node}
 use Rattle.vec_graph.specs.declared.graph.Graph.{Graph}
 use Rattle.vec_graph.specs.Graph.{node_at}
-use Rattle.page_redo.specs.Items.{in_whole, read_at, with_item, with_head, meta_at, head_changed, links_changed, meta_changed, is_graph, is_graph_page}
-use Rattle.page_redo.specs.Roles.{Role, on_graph, on_meta}
+use Rattle.page_redo.specs.PageTuples.{in_whole, read_at, with_item, with_head, meta_at, head_changed, links_changed, meta_changed, is_graph, is_graph_page}
+use Rattle.page_redo.specs.PageChanges.{PageChange, on_graph, on_meta}
 use Rattle.page_redo.specs.Redo.{at_one, numbered}
 use Rattle.graph_pages.specs.Standing.{item_in, read_in, element_in, links_in, head_in, is_list_of, is_element, is_list, node_with as made_of, Stands}
 use Rattle.graph_pages.proofs.Given.{then_is, map_is, item_bytes}
@@ -34,13 +34,13 @@ use Rattle.graph_pages.proofs.OneItem.{not_root}
 use Rattle.graph_pages.proofs.ElementEffect.{first_of_two}
 
 -- an event that touches one block fits the page there where its role does
-pub record OneFits (pages : List Content) (block number : ℕ) (role : Role) : Type 0 where
+pub record OneFits (pages : List Content) (block number : ℕ) (role : PageChange) : Type 0 where
   pub page : Content
   pub there : slice_get pages block ≡ Some page
   pub after : Content
   pub is : option_map (numbered number) (at_one block role block page) ≡ Some after
 
-one_fits : (pages : List Content) (block number : ℕ) (role : Role) (page after : Content) → slice_get pages block ≡ Some page
+one_fits : (pages : List Content) (block number : ℕ) (role : PageChange) (page after : Content) → slice_get pages block ≡ Some page
     → role page ≡ Some after → OneFits pages block number role
 one_fits pages block number role page after there is = record {
   page = page;

@@ -16,8 +16,8 @@ use Rattle.vec_graph.specs.declared.node.Node.{Node}
 use Rattle.vec_graph.specs.declared.graph.Graph.{Graph}
 use Rattle.vec_graph.specs.Graph.{node_at}
 use Rattle.vec_graph.specs.Effect.{changed}
-use Rattle.page_redo.specs.Items.{in_whole, with_item, links_changed, links_at, is_graph, is_graph_page}
-use Rattle.page_redo.specs.Roles.{on_graph, is_current, linked, relisted}
+use Rattle.page_redo.specs.PageTuples.{in_whole, with_item, links_changed, links_at, is_graph, is_graph_page}
+use Rattle.page_redo.specs.PageChanges.{on_graph, is_current, linked, relisted}
 use Rattle.page_redo.specs.Redo.{at_one, numbered}
 use Rattle.graph_pages.specs.Standing.{is_slot_below, node_with as made_of, Stands}
 use Rattle.graph_pages.proofs.Given.{then_is, map_is, if_is, when_is, item_bytes}

@@ -6,7 +6,7 @@ use Rattle.vec_names.specs.declared.params.Params.{Params}
 use Rattle.vec_names.specs.Order.{tid_cmp}
 use Rattle.page_bytes.specs.Content.{Content}
 use Rattle.vec_graph.specs.declared.node.Node.{Node}
-use Rattle.page_redo.specs.Roles.{if_so}
+use Rattle.page_redo.specs.PageChanges.{if_so}
 use Rattle.graph_pages.specs.Standing.{node_in}
 
 -- a place on a lower block, or at no higher an offset of the block

@@ -20,8 +20,8 @@ use Rattle.vec_graph.specs.declared.graph.Graph.{Graph}
 use Rattle.vec_graph.specs.Graph.{node_at}
 use Rattle.graph_pages.specs.declared.graph_fault.GraphFault.{GraphFault}
 use Rattle.graph_pages.specs.declared.graph_fault.GraphFault.TheVariants.{Memory, Bad}
-use Rattle.page_redo.specs.Items.{in_whole, meta_at, is_graph, is_meta_page, is_graph_page}
-use Rattle.page_redo.specs.Roles.{when, if_so}
+use Rattle.page_redo.specs.PageTuples.{in_whole, meta_at, is_graph, is_meta_page, is_graph_page}
+use Rattle.page_redo.specs.PageChanges.{when, if_so}
 
 -- ---- what stands at a place of the pages
 

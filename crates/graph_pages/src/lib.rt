@@ -6,15 +6,16 @@
 //! fits the pages.
 #![tactic(auto)]
 
-mod blocks;
+mod block_rules;
+mod broken_blocks;
+mod decoded;
 mod effects;
 mod fitting;
 mod graph_fault;
 mod law;
-mod naming;
+mod list_pointers;
 mod nodes;
-mod places;
-mod rules;
+mod page_places;
 mod standing;
 
 pub use effects::{law_drop, law_entry, law_hint, law_join, law_link, law_mark, law_relist};

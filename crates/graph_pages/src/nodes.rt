@@ -5,12 +5,12 @@ ghost use Rattle.std.specs.FinMap.{get};
 ghost use Rattle.vec_names.specs.declared.tid.Tid.{Tid as Place};
 ghost use Rattle.vec_names.specs.Params.{IsInRange};
 ghost use Rattle.vec_tuples.specs.Reading.{element, links};
-ghost use Rattle.page_redo.specs.Items.{in_whole};
+ghost use Rattle.page_redo.specs.PageTuples.{in_whole};
 ghost use Rattle.graph_pages.specs.Standing.{element_in, links_in, node_in, node_with};
 ghost use Rattle.graph_pages.specs.Filling.{IsFilledTo, with_node};
 
+use crate::page_places::{item_in, place_on};
 use index_sizes::{LAST_BLOCK, MOST_BLOCKS};
-use crate::places::{item_in, place_on};
 use page_bytes::Page;
 use std::alloc::{AllocError, Global};
 use vec_graph::Node;

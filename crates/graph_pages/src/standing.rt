@@ -3,13 +3,14 @@
 ghost use Rattle.std.specs.Prelude.{◌≡◌, ◌≤◌, length};
 ghost use Rattle.graph_pages.specs.Standing.{IsGraphOf};
 
-use index_sizes::MOST_BLOCKS;
-use crate::blocks::first_broken;
+use crate::block_rules::is_root;
+use crate::broken_blocks::first_broken;
+use crate::decoded::decoded;
 use crate::graph_fault::GraphFault;
-use crate::naming::named_places;
+use crate::list_pointers::named_places;
 use crate::nodes::nodes_of;
-use crate::places::root;
-use crate::rules::is_root;
+use crate::page_places::root;
+use index_sizes::MOST_BLOCKS;
 use page_bytes::Page;
 use std::alloc::Global;
 use vec_graph::Graph;
@@ -34,8 +35,9 @@ pub fn graph_of(alloc: Global, pages: &[Page]) -> Result<Graph, GraphFault>
     if !is_root(pages, &meta) {
         return Err(GraphFault::Bad { block: 0 });
     }
-    let named = named_places(alloc, pages, &meta.params)?;
-    if let Some(block) = first_broken(pages, &meta.params, &named) {
+    let items = decoded(alloc, pages, &meta.params)?;
+    let named = named_places(alloc, &items)?;
+    if let Some(block) = first_broken(pages, &meta.params, &items, &named) {
         return Err(GraphFault::Bad { block });
     }
     let nodes = nodes_of(alloc, pages, &meta.params)?;

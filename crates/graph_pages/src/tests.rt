@@ -1,17 +1,17 @@
 //! Pages that stand for a graph, and pages that break each of the rules.
 
 use crate::{
-    GraphFault, graph_of, law_drop, law_drop_fits, law_entry, law_entry_fits,
-    law_hint, law_hint_fits, law_join, law_join_fits, law_link, law_link_fits, law_mark,
-    law_relist, law_relist_fits, law_standing,
+    GraphFault, graph_of, law_drop, law_drop_fits, law_entry, law_entry_fits, law_hint,
+    law_hint_fits, law_join, law_join_fits, law_link, law_link_fits, law_mark, law_relist,
+    law_relist_fits, law_standing,
 };
 use bit_code::{Bits, read_bits};
 use page_bytes::{Page, PageKind};
 use page_redo::redo;
 use std::alloc::Global;
 use std::test::*;
-use vec_history::Event;
 use vec_graph::Node;
+use vec_history::Event;
 use vec_names::{HeapId, Kind, Listed, Ops, Params, Tid};
 
 /// A graph of four places with m 2.
@@ -93,7 +93,6 @@ fn fits(event: &Event, params: Params, wrap: u8, block: u32, page: &mut Page) ->
         page.bytes() != before.bytes()
     }
 }
-
 
 /// The parts of a small index: the meta tuple with the entry 1/1, the element 1/1 with its list 1/2, and the element 2/1
 /// with its list 1/3, whose first slot names 2/1.

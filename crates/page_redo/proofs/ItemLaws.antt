@@ -13,7 +13,9 @@ use Rattle.vec_tuples.specs.declared.element.ElementHead.{ElementHead}
 use Rattle.vec_tuples.specs.declared.links.Links.{Links}
 use Rattle.vec_tuples.specs.declared.centre.CentreTuple.{CentreTuple}
 use Rattle.vec_tuples.specs.Spelling.{IsElement, element_with, element_bytes, head_of_element, IsLinks, links_bytes, head_of_links, IsCentre, centre_bytes, head_of_centre}
-use Rattle.page_redo.specs.Items.{in_whole, read_at, element_at, links_at, centre_at}
+use Rattle.page_redo.specs.declared.items.LinksHead.{LinksHead}
+use Rattle.page_redo.specs.PageTuples.{links_head}
+use Rattle.page_redo.specs.PageTuples.{in_whole, read_at, element_at, links_at, centre_at}
 
 module _ {A : Type 0} {f : Reader A} {spell : A → List ℕ} {Fits : A → Type 0} {most : ℕ} (law : IsField ⊤ f spell Fits most) where
   in_whole_got : (r : Read A) (v : A) → in_whole r ≡ Some v → r ≡ Got v []
@@ -70,14 +72,31 @@ element_there p c off h told spelled = there (element_at p c off) refl
     there (Some e) is = (e, (spelled e is).1)
 
 -- and so does a neighbour tuple
-pub links_there : (p : Params) (c : Content) (off : ℕ) (h : Bool × ℕ × ℕ) → Some h ≡ option_map head_of_links (links_at p c off)
+pub links_there : (p : Params) (c : Content) (off : ℕ) (h : LinksHead) → Some h ≡ option_map links_head (links_at p c off)
     → ((l : Links) → links_at p c off ≡ Some l → IsLinks p l × (item_at c.items off ≡ Some (links_bytes l)))
-    → (l : Links) × (item_at c.items off ≡ Some (links_bytes l)) × IsLinks p l × (links_at p c off ≡ Some l) × (h ≡ head_of_links l)
+    → (l : Links) × (item_at c.items off ≡ Some (links_bytes l)) × IsLinks p l × (links_at p c off ≡ Some l) × (h ≡ links_head l)
 links_there p c off h told spelled = there (links_at p c off) refl
   where
-    there : (o : Option Links) → links_at p c off ≡ o → (l : Links) × (item_at c.items off ≡ Some (links_bytes l)) × IsLinks p l × (links_at p c off ≡ Some l) × (h ≡ head_of_links l)
-    there None is = let none = told ∙ ap (option_map head_of_links) is in absurd cc
-    there (Some l) is = let s = spelled l is in let same = told ∙ ap (option_map head_of_links) is in (l, s.1, s.0, is, some_is h (head_of_links l) same)
+    there : (o : Option Links) → links_at p c off ≡ o
+        → (l : Links) × (item_at c.items off ≡ Some (links_bytes l)) × IsLinks p l × (links_at p c off ≡ Some l) × (h ≡ links_head l)
+    there None is = let none = told ∙ ap (option_map links_head) is in absurd cc
+    there (Some l) is =
+        let s = spelled l is in
+        let same = told ∙ ap (option_map links_head) is in
+        (l, s.1, s.0, is, some_is h (links_head l) same)
+
+-- a head as a struct, and none
+abbrev as_struct : Bool × ℕ × ℕ → LinksHead
+as_struct h = record { deleted = h.0; version = h.1; count = h.2 }
+
+pub links_told : (o : Option Links) (h : Bool × ℕ × ℕ) → Some h ≡ option_map head_of_links o
+    → Some (record { deleted = h.0; version = h.1; count = h.2 }) ≡ option_map links_head o
+links_told None h is = absurd cc
+links_told (Some l) h is = let e = some_is h (head_of_links l) is in ap (λ (g : Bool × ℕ × ℕ). Some (as_struct g)) e
+
+pub links_not_told : (o : Option Links) → None ≡ option_map head_of_links o → None ≡ option_map links_head o
+links_not_told None is = refl
+links_not_told (Some l) is = absurd cc
 
 -- and a list tuple
 pub centre_there : (p : Params) (c : Content) (off : ℕ) (h : ℕ × ℕ) → Some h ≡ option_map head_of_centre (centre_at p c off)

@@ -5,8 +5,8 @@ use Rattle.vec_names.specs.declared.tid.Tid.{Tid}
 use Rattle.vec_names.specs.declared.params.Kind.{Kind}
 use Rattle.vec_names.specs.declared.params.Kind.TheVariants.{Hnsw, Ivf}
 use Rattle.vec_tuples.specs.Spelling.{IsEntryOf, IsLevelOf, IsHintOf}
-use Rattle.page_redo.specs.Items.{is_graph}
-use Rattle.page_redo.specs.Roles.{is_level}
+use Rattle.page_redo.specs.PageTuples.{is_graph}
+use Rattle.page_redo.specs.PageChanges.{is_level}
 
 pub entry_of_graph : (k : Kind) (to : Option Tid) → is_graph k ≡ true → IsEntryOf k to
 entry_of_graph Hnsw to is = tt

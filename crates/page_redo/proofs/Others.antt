@@ -10,14 +10,13 @@ use Rattle.vec_history.specs.declared.event.Event.{Event}
 use Rattle.vec_history.specs.declared.event.Event.TheVariants.{Put, Join, Link, Relist, Drop, Mark, Entry, Hint, IvfAdd, IvfGrow, IvfDrop, IvfHint, Gate, Ungate, Phase, VacuumEnd, Cancel, Settled, DiskFaulted}
 use Rattle.byte_fields.proofs.EachField.{some_is}
 use Rattle.page_bytes.specs.Content.{Content, item_at, round8, free_of}
-use Rattle.vec_names.specs.declared.tid.Tid.{Tid}
 use Rattle.vec_names.specs.declared.heap_id.HeapId.{HeapId}
 use Rattle.vec_tuples.specs.declared.element.ElementHead.{ElementHead}
 use Rattle.vec_tuples.specs.declared.links.Links.{Links}
 use Rattle.vec_tuples.specs.declared.meta.Meta.{Meta}
-use Rattle.vec_tuples.specs.Spelling.{element_bytes, head_of_element, links_bytes, links_with, meta_bytes, centre_bytes, centre_with, entry_bytes, row_with}
-use Rattle.page_redo.specs.Items.{with_item, with_head, added, head_changed, links_changed, centre_changed, meta_changed, element_at, links_at, centre_at, meta_at, is_graph, is_graph_page, is_meta_page, is_lists_page, is_entries_page}
-use Rattle.page_redo.specs.Roles.{Role, when, if_so, on_graph, on_meta, joined, dropped, marked, linked, relisted, emptied, entered, hinted, put_over, put, is_node, is_old_element, are_old_links, new_element, put_element, put_links, entry_added, grown, chained, list_block, list_offset, aimed}
+use Rattle.vec_tuples.specs.Spelling.{element_bytes, head_of_element, links_bytes, meta_bytes, centre_bytes, centre_with, entry_bytes, row_with}
+use Rattle.page_redo.specs.PageTuples.{with_item, with_head, added, head_changed, links_changed, centre_changed, meta_changed, element_at, links_at, centre_at, meta_at, is_graph, is_graph_page, is_meta_page, is_lists_page, is_entries_page}
+use Rattle.page_redo.specs.PageChanges.{PageChange, when, if_so, on_graph, on_meta, joined, dropped, marked, linked, relisted, emptied, entered, hinted, put_over, put, NewNode, new_node, is_node, is_old_element, are_old_links, new_element, new_links, put_element, put_links, entry_added, grown, chained, list_block, list_offset, aimed}
 use Rattle.page_redo.specs.Redo.{at_one, at_two, changed, named, AreEntriesDropped}
 
 -- ---- items of a list that is changed
@@ -77,7 +76,7 @@ mapped c d off change view None is = absurd cc
 mapped c d off change view (Some a) is = mapped_once c d off (view a) (change a) is
 
 -- such a role keeps the items at other offsets
-abbrev KeepsApart : ℕ → Role → Type 0
+abbrev KeepsApart : ℕ → PageChange → Type 0
 KeepsApart a role = (c d : Content) (off : ℕ) → role c ≡ Some d → off ≤ length c.items → (a ≡ off → ⊥) → Keeps off c d
 
 from_item : (c d : Content) (a off : ℕ) → 1 ≤ a → (x : List ℕ) × (d ≡ with_item c a x) → (a ≡ off → ⊥) → Keeps off c d
@@ -87,7 +86,7 @@ put_over_keeps : (o : Option (List ℕ)) (a : ℕ) (may_go : Bool) (x : List ℕ
 put_over_keeps None a may_go x low c d off is h apart = behind_keeps c d off x (added_is x c d (so (eqb a (length c.items + 1)) (added x c) d is)) h
 put_over_keeps (Some old) a may_go x low c d off is h apart = from_item c d a off low (x, sym (given (may_go && eqb (length old) (length x)) (with_item c a x) d is)) apart
 
-one_keeps : (a at : ℕ) (role : Role) (block : ℕ) (c d : Content) (off : ℕ) → KeepsApart at role → at_one a role block c ≡ Some d → off ≤ length c.items
+one_keeps : (a at : ℕ) (role : PageChange) (block : ℕ) (c d : Content) (off : ℕ) → KeepsApart at role → at_one a role block c ≡ Some d → off ≤ length c.items
     → (Contains {X = ℕ × ℕ} ((a, at) ∷ []) (block, off) → ⊥) → Keeps off c d
 one_keeps a at role block c d off keeps is h apart = here (eqb a block) refl is
   where
@@ -95,7 +94,7 @@ one_keeps a at role block c d off keeps is h apart = here (eqb a block) refl is
     here false e is = absurd cc
     here true e is = keeps c d off is h (λ same. apart (0, lit< tt, (λ i. (eqb-true a block e i, same i))))
 
-then_keeps : (off : ℕ) (c d : Content) (first second : Role) → ((e : Content) → first c ≡ Some e → Keeps off c e) → ((e f : Content) → second e ≡ Some f → off ≤ length e.items → Keeps off e f)
+then_keeps : (off : ℕ) (c d : Content) (first second : PageChange) → ((e : Content) → first c ≡ Some e → Keeps off c e) → ((e f : Content) → second e ≡ Some f → off ≤ length e.items → Keeps off e f)
     → off ≤ length c.items → (o : Option Content) → first c ≡ o → option_and_then second o ≡ Some d → Keeps off c d
 then_keeps off c d first second one two h None e is = absurd cc
 then_keeps off c d first second one two h (Some m) e is =
@@ -103,7 +102,7 @@ then_keeps off c d first second one two h (Some m) e is =
     let b = two m d is (omega (arith, h, a.longer)) in
     record { same = b.same ∙ a.same; longer = omega (arith, a.longer, b.longer) }
 
-two_keep : (a b at list_at : ℕ) (first second : Role) (block : ℕ) (c d : Content) (off : ℕ) → KeepsApart at first → KeepsApart list_at second → at_two a first b second block c ≡ Some d → off ≤ length c.items
+two_keep : (a b at list_at : ℕ) (first second : PageChange) (block : ℕ) (c d : Content) (off : ℕ) → KeepsApart at first → KeepsApart list_at second → at_two a first b second block c ≡ Some d → off ≤ length c.items
     → (Contains {X = ℕ × ℕ} ((a, at) ∷ (b, list_at) ∷ []) (block, off) → ⊥) → Keeps off c d
 two_keep a b at list_at first second block c d off keeps_first keeps_second is h apart = here (eqb a block) (eqb b block) refl refl is
   where
@@ -136,19 +135,19 @@ aim_keeps p list aim c d off is h apart =
     from_item c d (list_offset p list) off (omega arith)
     (mapped_once c d (list_offset p list) (λ l. centre_bytes (centre_with l.first aim l.bits)) (centre_at p c (list_offset p list)) (so (not (is_graph p.kind) && is_lists_page c.kind) (centre_changed (λ l. centre_with l.first aim l.bits) p (list_offset p list) c) d is)) apart
 
-element_keeps : (p : Params) (at list_at : Tid) (version level : ℕ) (id : HeapId) (bits : List Bool) (lists : List (Option Tid)) → KeepsApart at.off (put_element p at list_at version level id bits lists)
-element_keeps p at list_at version level id bits lists c d off is h apart =
-    let made = element_bytes (new_element list_at version level id bits) in
-    let may_go = is_old_element version (element_at p c at.off) in
-    put_over_keeps (item_at c.items at.off) at.off may_go made at.counted_from_one c d off
-    (so (is_node p version level bits lists) (put at.off may_go made c) d (so (is_graph p.kind && is_graph_page c.kind) (if_so (is_node p version level bits lists) (put at.off may_go made c)) d is)) h apart
+element_keeps : (p : Params) (n : NewNode) → KeepsApart n.at.off (put_element p n)
+element_keeps p n c d off is h apart =
+    let made = element_bytes (new_element n) in
+    let may_go = is_old_element n.version (element_at p c n.at.off) in
+    put_over_keeps (item_at c.items n.at.off) n.at.off may_go made n.at.counted_from_one c d off
+    (so (is_node p n) (put n.at.off may_go made c) d (so (is_graph p.kind && is_graph_page c.kind) (if_so (is_node p n) (put n.at.off may_go made c)) d is)) h apart
 
-new_links_keep : (p : Params) (list_at : Tid) (version level : ℕ) (bits : List Bool) (lists : List (Option Tid)) → KeepsApart list_at.off (put_links p list_at version level bits lists)
-new_links_keep p list_at version level bits lists c d off is h apart =
-    let made = links_bytes (links_with false version lists) in
-    let may_go = are_old_links version (links_at p c list_at.off) in
-    put_over_keeps (item_at c.items list_at.off) list_at.off may_go made list_at.counted_from_one c d off
-    (so (is_node p version level bits lists) (put list_at.off may_go made c) d (so (is_graph p.kind && is_graph_page c.kind) (if_so (is_node p version level bits lists) (put list_at.off may_go made c)) d is)) h apart
+new_links_keep : (p : Params) (n : NewNode) → KeepsApart n.list_at.off (put_links p n)
+new_links_keep p n c d off is h apart =
+    let made = links_bytes (new_links n) in
+    let may_go = are_old_links n.version (links_at p c n.list_at.off) in
+    put_over_keeps (item_at c.items n.list_at.off) n.list_at.off may_go made n.list_at.counted_from_one c d off
+    (so (is_node p n) (put n.list_at.off may_go made c) d (so (is_graph p.kind && is_graph_page c.kind) (if_so (is_node p n) (put n.list_at.off may_go made c)) d is)) h apart
 
 -- entries stay where one is added, at whatever offset
 entry_keeps : (p : Params) (id : HeapId) (bits : List Bool) (c d : Content) (off : ℕ) → entry_added p id bits c ≡ Some d → off ≤ length c.items → Keeps off c d
@@ -167,7 +166,7 @@ chained_keeps p block bits c d off is =
     let items : d.items ≡ c.items = ap (λ (p : Content). p.items) (sym e) in
     record { same = ap (λ (l : List (List ℕ)). item_at l off) items; longer = omega (arith, ap (λ (l : List (List ℕ)). length l) items) }
 
-add_one_keeps : (a : ℕ) (role : Role) (block : ℕ) (c d : Content) (off : ℕ) → ((e : Content) → role c ≡ Some e → Keeps off c e) → at_one a role block c ≡ Some d → Keeps off c d
+add_one_keeps : (a : ℕ) (role : PageChange) (block : ℕ) (c d : Content) (off : ℕ) → ((e : Content) → role c ≡ Some e → Keeps off c e) → at_one a role block c ≡ Some d → Keeps off c d
 add_one_keeps a role block c d off keeps is = keeps d (so (eqb a block) (role c) d is)
 
 grow_keeps : (new last : ℕ) (p : Params) (id : HeapId) (bits : List Bool) (block : ℕ) (c d : Content) (off : ℕ) → at_two new (grown p id bits) last (chained p new bits) block c ≡ Some d → off ≤ length c.items → Keeps off c d
@@ -185,7 +184,8 @@ grow_keeps new last p id bits block c d off is h = here (eqb new block) (eqb las
 kept_by : (event : Event) (p : Params) (wrap block : ℕ) (c d : Content) → changed event p wrap block c ≡ Some d → (AreEntriesDropped event → ⊥) → (off : ℕ) → off ≤ length c.items
     → (Contains (named event p) (block, off) → ⊥) → Keeps off c d
 kept_by (Put at list_at version level id bits lists) p wrap block c d is stay off h apart =
-    two_keep at.block list_at.block at.off list_at.off (put_element p at list_at version level id bits lists) (put_links p list_at version level bits lists) block c d off (element_keeps p at list_at version level id bits lists) (new_links_keep p list_at version level bits lists) is h apart
+    let n = new_node at list_at version level id bits lists in
+    two_keep at.block list_at.block at.off list_at.off (put_element p n) (put_links p n) block c d off (element_keeps p n) (new_links_keep p n) is h apart
 kept_by (Join at version id) p wrap block c d is stay off h apart = one_keeps at.block at.off (on_graph p (head_changed (joined version id) p at.off)) block c d off (head_keeps p (joined version id) at.off at.counted_from_one) is h apart
 kept_by (Link at list_at version slot to) p wrap block c d is stay off h apart =
     one_keeps list_at.block list_at.off (on_graph p (links_changed (linked version slot to) p list_at.off)) block c d off (links_keep p (linked version slot to) list_at.off list_at.counted_from_one) is h apart

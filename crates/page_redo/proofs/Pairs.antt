@@ -1,23 +1,22 @@
--- Two roles of an event on one page.
-use Rattle.std.proofs.Common.{◌≡◌, ℕ, Bool, true, false, ◌&&◌, List, ◌∷◌, length, replicate, is_some, Option, Some, None, Result, Ok, Err, refl, sym, ap, ◌∙◌, arith}
+-- Two changes of an event on one page.
+use Rattle.std.proofs.Common.{◌≡◌, ℕ, Bool, true, false, ◌&&◌, List, ◌∷◌, length, replicate, is_some, Option, Some, None, refl, sym, ap, ◌∙◌, arith}
 use Rattle.std.specs.Prelude.{nat_lt}
 use Rattle.std.proofs.lemmas.Bool.{false_from_ne_true, ltb-true}
 use Rattle.std.specs.Option.{option_map, option_and_then}
 use Rattle.index_sizes.specs.Sizes.{next_version}
-use Rattle.vec_names.specs.declared.tid.Tid.{Tid}
-use Rattle.vec_names.specs.declared.heap_id.HeapId.{HeapId}
 use Rattle.vec_names.specs.declared.params.Params.{Params}
 use Rattle.page_bytes.specs.Content.{Content, item_at}
 use Rattle.vec_tuples.specs.declared.element.Element.{Element}
 use Rattle.vec_tuples.specs.declared.element.ElementHead.{ElementHead}
 use Rattle.vec_tuples.specs.declared.links.Links.{Links}
-use Rattle.vec_tuples.specs.Spelling.{element_bytes, head_bytes, head_of_element, head_of_links, links_bytes, links_with}
+use Rattle.vec_tuples.specs.Spelling.{element_bytes, head_bytes, head_of_element, links_bytes, links_with}
 use Rattle.byte_fields.specs.Reading.{field, byte_from}
 use Rattle.vec_tuples.specs.Reading.{element, links}
-use Rattle.page_redo.specs.Items.{in_whole, with_item, with_head, head_changed, links_changed, element_at, links_at, is_graph, is_graph_page}
-use Rattle.page_redo.specs.Roles.{if_so, on_graph, put, put_element, put_links, is_node, is_old_element, are_old_links, new_element, is_current, marked, emptied}
-use Rattle.page_redo.specs.declared.fault.RedoFault.{RedoFault}
-use Rattle.page_redo.specs.Redo.{Becomes}
+use Rattle.page_redo.specs.PageTuples.{in_whole, with_item, with_head, head_changed, links_changed, element_at, links_at, links_head, is_graph, is_graph_page}
+use Rattle.page_redo.specs.PageChanges.{if_so, put, NewNode, put_element, put_links, is_node, is_old_element, are_old_links, new_element, new_links, is_current, marked, emptied}
+use Rattle.page_redo.specs.declared.items.LinksHead.{LinksHead}
+use Rattle.page_redo.specs.declared.in_place.Deletion.{Deletion}
+use Rattle.page_redo.specs.OfParts.{IsMade, delete_element, delete_links}
 use Rattle.page_redo.proofs.Others.{so}
 use Rattle.page_redo.proofs.Putting.{made_apart, made_here, made_kind, with_item_others, with_item_here}
 
@@ -64,93 +63,105 @@ some_page c d e = cc
 
 -- ---- a new node
 
--- The roles of a new node on a page of a graph: the element goes to its place, and its list to another one.
-module _ (p : Params) (at list_at : Tid) (version level : ℕ) (id : HeapId) (bits : List Bool) (lists : List (Option Tid)) (c : Content) where
+-- The changes of a new node on a page of a graph: the element goes to its place, and its list to another one.
+module _ (p : Params) (n : NewNode) (c : Content) where
   abbrev x : List ℕ
-  x = element_bytes (new_element list_at version level id bits)
+  x = element_bytes (new_element n)
 
   abbrev y : List ℕ
-  y = links_bytes (links_with false version lists)
+  y = links_bytes (new_links n)
 
   abbrev go : Bool
-  go = is_old_element version (element_at p c at.off)
+  go = is_old_element n.version (element_at p c n.at.off)
 
-  pub put_pair : (is_graph p.kind && is_graph_page c.kind) ≡ true → is_node p version level bits lists ≡ true → (at.off ≡ list_at.off → ⊥)
-      → option_and_then (put_links p list_at version level bits lists) (put_element p at list_at version level id bits lists c)
-      ≡ option_and_then (put list_at.off (are_old_links version (links_at p c list_at.off)) y) (put at.off go x c)
-  put_pair graph node apart = ap (option_and_then (put_links p list_at version level bits lists)) element_is ∙ here (put at.off go x c) refl
+  pub put_pair : (is_graph p.kind && is_graph_page c.kind) ≡ true → is_node p n ≡ true → (n.at.off ≡ n.list_at.off → ⊥)
+      → option_and_then (put_links p n) (put_element p n c)
+      ≡ option_and_then (put n.list_at.off (are_old_links n.version (links_at p c n.list_at.off)) y) (put n.at.off go x c)
+  put_pair graph node apart = ap (option_and_then (put_links p n)) element_is ∙ here (put n.at.off go x c) refl
     where
-      element_is : put_element p at list_at version level id bits lists c ≡ put at.off go x c
+      element_is : put_element p n c ≡ put n.at.off go x c
       element_is = rw (graph, node) refl
 
-      here : (o : Option Content) → put at.off go x c ≡ o
-          → option_and_then (put_links p list_at version level bits lists) o ≡ option_and_then (put list_at.off (are_old_links version (links_at p c list_at.off)) y) o
+      here : (o : Option Content) → put n.at.off go x c ≡ o
+          → option_and_then (put_links p n) o ≡ option_and_then (put n.list_at.off (are_old_links n.version (links_at p c n.list_at.off)) y) o
       here None made = refl
-      here (Some d) made = rw (made_kind at.off go x c d made, graph, node, same_list p c d list_at.off (made_apart at.off go x c d list_at.off made apart)) refl
+      here (Some d) made = rw (made_kind n.at.off go x c d made, graph, node, same_list p c d n.list_at.off (made_apart n.at.off go x c d n.list_at.off made apart)) refl
 
   -- where the list has no place after the element
-  pub put_refused : (is_graph p.kind && is_graph_page c.kind) ≡ true → is_node p version level bits lists ≡ true → (at.off ≡ list_at.off → ⊥) → (list_go : Bool) → list_go ≡ are_old_links version (links_at p c list_at.off)
-      → ((d : Content) → put at.off go x c ≡ Some d → is_some (put list_at.off list_go y d) ≡ false)
-      → option_and_then (put_links p list_at version level bits lists) (put_element p at list_at version level id bits lists c) ≡ None
+  pub put_refused : (is_graph p.kind && is_graph_page c.kind) ≡ true → is_node p n ≡ true → (n.at.off ≡ n.list_at.off → ⊥) → (list_go : Bool) → list_go ≡ are_old_links n.version (links_at p c n.list_at.off)
+      → ((d : Content) → put n.at.off go x c ≡ Some d → is_some (put n.list_at.off list_go y d) ≡ false)
+      → option_and_then (put_links p n) (put_element p n c) ≡ None
   put_refused graph node apart list_go old refused =
       put_pair graph node apart
-      ∙ ap (λ b. option_and_then (put list_at.off b y) (put at.off go x c)) (sym old)
-      ∙ nothing_after (put at.off go x c) (put list_at.off list_go y) (λ d made. none_is (put list_at.off list_go y d) (refused d made))
+      ∙ ap (λ b. option_and_then (put n.list_at.off b y) (put n.at.off go x c)) (sym old)
+      ∙ nothing_after (put n.at.off go x c) (put n.list_at.off list_go y) (λ d made. none_is (put n.list_at.off list_go y d) (refused d made))
 
-  pub put_done : (is_graph p.kind && is_graph_page c.kind) ≡ true → is_node p version level bits lists ≡ true → (at.off ≡ list_at.off → ⊥) → (goes list_go : Bool) → goes ≡ go → list_go ≡ are_old_links version (links_at p c list_at.off)
-      → (d e : Content) (result : Result (Unit {0}) RedoFault) → put at.off goes x c ≡ Some d → is_some (put list_at.off list_go y d) ≡ true → Becomes (put list_at.off list_go y d) d e result
-      → Becomes (option_and_then (put_links p list_at version level bits lists) (put_element p at list_at version level id bits lists c)) c e result
+  pub put_done : (is_graph p.kind && is_graph_page c.kind) ≡ true → is_node p n ≡ true → (n.at.off ≡ n.list_at.off → ⊥) → (goes list_go : Bool) → goes ≡ go → list_go ≡ are_old_links n.version (links_at p c n.list_at.off)
+      → (d e : Content) (result : Option (Unit {0})) → put n.at.off goes x c ≡ Some d → is_some (put n.list_at.off list_go y d) ≡ true → IsMade (put n.list_at.off list_go y d) d e result
+      → IsMade (option_and_then (put_links p n) (put_element p n c)) c e result
   put_done graph node apart goes list_go old list_old d e result made fits becomes = done result becomes
     where
-      pair : option_and_then (put_links p list_at version level bits lists) (put_element p at list_at version level id bits lists c) ≡ put list_at.off list_go y d
+      pair : option_and_then (put_links p n) (put_element p n c) ≡ put n.list_at.off list_go y d
       pair =
           put_pair graph node apart
-          ∙ ap (λ b. option_and_then (put list_at.off b y) (put at.off go x c)) (sym list_old)
-          ∙ ap (λ b. option_and_then (put list_at.off list_go y) (put at.off b x c)) (sym old)
-          ∙ ap (option_and_then (put list_at.off list_go y)) made
+          ∙ ap (λ b. option_and_then (put n.list_at.off b y) (put n.at.off go x c)) (sym list_old)
+          ∙ ap (λ b. option_and_then (put n.list_at.off list_go y) (put n.at.off b x c)) (sym old)
+          ∙ ap (option_and_then (put n.list_at.off list_go y)) made
 
-      done : (result : Result (Unit {0}) RedoFault) → Becomes (put list_at.off list_go y d) d e result
-          → Becomes (option_and_then (put_links p list_at version level bits lists) (put_element p at list_at version level id bits lists c)) c e result
-      done (Ok v) is = pair ∙ is
-      done (Err fault) is = absurd (no_none (put list_at.off list_go y d) fits is.0)
+      done : (result : Option (Unit {0})) → IsMade (put n.list_at.off list_go y d) d e result
+          → IsMade (option_and_then (put_links p n) (put_element p n c)) c e result
+      done (Some v) is = pair ∙ is
+      done None is = absurd (no_none (put n.list_at.off list_go y d) fits is.0)
 
-  pub put_not_same : at.off ≡ list_at.off → option_and_then (put_links p list_at version level bits lists) (put_element p at list_at version level id bits lists c) ≡ None
-  put_not_same same = nothing_after (put_element p at list_at version level id bits lists c) (put_links p list_at version level bits lists) none
+  pub put_not_same : n.at.off ≡ n.list_at.off → option_and_then (put_links p n) (put_element p n c) ≡ None
+  put_not_same same = nothing_after (put_element p n c) (put_links p n) none
     where
-      none : (d : Content) → put_element p at list_at version level id bits lists c ≡ Some d → put_links p list_at version level bits lists d ≡ None
+      none : (d : Content) → put_element p n c ≡ Some d → put_links p n d ≡ None
       none d made =
-          let e = so (is_node p version level bits lists) (put at.off go x c) d (so (is_graph p.kind && is_graph_page c.kind) (if_so (is_node p version level bits lists) (put at.off go x c)) d made) in
-          let there : item_at d.items list_at.off ≡ Some x = ap (item_at d.items) (sym same) ∙ made_here at.off go x c d e in
-          over (is_graph p.kind && is_graph_page d.kind) (is_node p version level bits lists) d there
+          let e = so (is_node p n) (put n.at.off go x c) d (so (is_graph p.kind && is_graph_page c.kind) (if_so (is_node p n) (put n.at.off go x c)) d made) in
+          let there : item_at d.items n.list_at.off ≡ Some x = ap (item_at d.items) (sym same) ∙ made_here n.at.off go x c d e in
+          over (is_graph p.kind && is_graph_page d.kind) (is_node p n) d there
         where
-          over : (a b : Bool) (d : Content) → item_at d.items list_at.off ≡ Some x → if_so a (if_so b (put list_at.off (are_old_links version (links_at p d list_at.off)) y d)) ≡ None
+          over : (a b : Bool) (d : Content) → item_at d.items n.list_at.off ≡ Some x → if_so a (if_so b (put n.list_at.off (are_old_links n.version (links_at p d n.list_at.off)) y d)) ≡ None
           over false b d there = refl
           over true false d there = refl
-          over true true d there = rw (list_over_element p d list_at.off (new_element list_at version level id bits) there, there) refl
+          over true true d there = rw (list_over_element p d n.list_at.off (new_element n) there, there) refl
 
 -- ---- a deleted node
 
-pub emptied_is : (wrap version : ℕ) (deleted : Bool) (found count : ℕ) (l : Links) (test : Bool) → (deleted, found, count) ≡ head_of_links l → test ≡ is_current deleted found version → test ≡ true
-    → emptied wrap version l ≡ Some (links_with true (next_version wrap found) (replicate count None))
-emptied_is wrap version deleted found count l test head is current =
-    let d : deleted ≡ l.deleted = ap (λ (h : Bool × ℕ × ℕ). h.0) head in
-    let f : found ≡ l.version = ap (λ (h : Bool × ℕ × ℕ). h.1) head in
-    let n : count ≡ length l.tids = ap (λ (h : Bool × ℕ × ℕ). h.2) head in
+pub emptied_is : (wrap version : ℕ) (h : LinksHead) (l : Links) (test : Bool) → h ≡ links_head l → test ≡ is_current h.deleted h.version version → test ≡ true
+    → emptied wrap version l ≡ Some (links_with true (next_version wrap h.version) (replicate h.count None))
+emptied_is wrap version h l test head is current =
+    let d : h.deleted ≡ l.deleted = ap (λ (h : LinksHead). h.deleted) head in
+    let f : h.version ≡ l.version = ap (λ (h : LinksHead). h.version) head in
+    let n : h.count ≡ length l.tids = ap (λ (h : LinksHead). h.count) head in
     rw (← d, ← f, ← n, ← is, current) refl
 
-pub not_emptied : (wrap version : ℕ) (deleted : Bool) (found count : ℕ) (l : Links) (test : Bool) → (deleted, found, count) ≡ head_of_links l → test ≡ is_current deleted found version → test ≡ false
+pub not_emptied : (wrap version : ℕ) (h : LinksHead) (l : Links) (test : Bool) → h ≡ links_head l → test ≡ is_current h.deleted h.version version → test ≡ false
     → emptied wrap version l ≡ None
-not_emptied wrap version deleted found count l test head is current =
-    let d : deleted ≡ l.deleted = ap (λ (h : Bool × ℕ × ℕ). h.0) head in
-    let f : found ≡ l.version = ap (λ (h : Bool × ℕ × ℕ). h.1) head in
+not_emptied wrap version h l test head is current =
+    let d : h.deleted ≡ l.deleted = ap (λ (h : LinksHead). h.deleted) head in
+    let f : h.version ≡ l.version = ap (λ (h : LinksHead). h.version) head in
     rw (← d, ← f, ← is, current) refl
 
-module _ (p : Params) (wrap version off list_off : ℕ) (c : Content) where
+module _ (p : Params) (n : Deletion) (c : Content) where
+  abbrev wrap : ℕ
+  wrap = n.wrap
+
+  abbrev version : ℕ
+  version = n.version
+
+  abbrev off : ℕ
+  off = n.at.off
+
+  abbrev list_off : ℕ
+  list_off = n.list_at.off
+
   abbrev first : Option Content
-  first = on_graph p (head_changed (marked wrap version) p off) c
+  first = delete_element p n c
 
   abbrev second : Content → Option Content
-  second = on_graph p (links_changed (emptied wrap version) p list_off)
+  second = delete_links p n
 
   -- the element that stands there then
   abbrev Marked : Content → Type 0

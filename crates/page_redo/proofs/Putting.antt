@@ -6,8 +6,9 @@ use Rattle.std.proofs.lemmas.List.{length-append, length-set}
 use Rattle.page_bytes.specs.Content.{Content, item_at, round8, free_of, taken}
 use Rattle.page_bytes.proofs.Placing.{taken-cons, taken-append}
 use Rattle.page_bytes.proofs.Changes.{taken-one}
-use Rattle.page_redo.specs.Items.{with_item, added}
-use Rattle.page_redo.specs.Roles.{when, if_so, may_put, put_over, put}
+use Rattle.page_redo.specs.PageTuples.{with_item, added}
+use Rattle.page_redo.specs.PageChanges.{when, if_so, put_over, put}
+use Rattle.page_redo.specs.OfParts.{may_put}
 use Rattle.page_redo.proofs.Others.{given, set_apart}
 
 -- ---- whether it can be put
@@ -69,7 +70,7 @@ place_of : (items : List (List ℕ)) (off : ℕ) (old : List ℕ) → item_at it
 place_of items zero old is = absurd cc
 place_of items (suc i) old is = (omega arith, ap (slice_get items) (let back : suc i - 1 ≡ i = omega arith in back) ∙ is)
 
-at_place : (items : List (List ℕ)) (off : ℕ) → 1 ≤ off → item_at items off ≡ slice_get items (off - 1)
+pub at_place : (items : List (List ℕ)) (off : ℕ) → 1 ≤ off → item_at items off ≡ slice_get items (off - 1)
 at_place items zero low = absurd (omega (arith, low))
 at_place items (suc i) low = ap (slice_get items) (let back : i ≡ suc i - 1 = omega arith in back)
 

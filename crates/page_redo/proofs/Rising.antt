@@ -6,7 +6,7 @@ use Rattle.std.specs.List.Sorted.{IsStrictlyIncreasing}
 use Rattle.std.proofs.Math.Seq.{drop-cons}
 use Rattle.std.proofs.lemmas.Bool.{and_parts, leb-true, ltb-true}
 use Rattle.std.proofs.lemmas.List.Elements.{All-nil, All-cons}
-use Rattle.page_redo.specs.Roles.{rises}
+use Rattle.page_redo.specs.PageChanges.{rises}
 
 pub record Rises (low high off : ℕ) (offs : List ℕ) : Type 0 where
   pub above : low < off

@@ -6,31 +6,35 @@ use Rattle.vec_history.specs.declared.event.Event.{Event}
 use Rattle.vec_history.specs.declared.event.Event.TheVariants.{Put, Join, Link, Relist, Drop, Mark, Entry, Hint, IvfAdd, IvfGrow, IvfDrop, IvfHint}
 use Rattle.page_bytes.specs.Content.{Content}
 use Rattle.page_redo.specs.declared.fault.RedoFault.{RedoFault}
-use Rattle.page_redo.specs.Items.{head_changed, links_changed, meta_changed}
-use Rattle.page_redo.specs.Roles.{Role, on_graph, joined, dropped, marked, linked, relisted, emptied, put_element, put_links, entered, hinted, on_meta, entry_added, grown, chained, entries_dropped, list_block, list_offset, aimed}
+use Rattle.page_redo.specs.PageTuples.{head_changed, links_changed, meta_changed}
+use Rattle.page_redo.specs.PageChanges.{PageChange, on_graph, joined, dropped, marked, linked, relisted, emptied, new_node, put_element, put_links, entered, hinted, on_meta, entry_added, grown, chained, entries_dropped, list_block, list_offset, aimed}
 
 -- an event that touches one block
-abbrev pub at_one : ℕ → Role → ℕ → Role
-at_one a role block c = if a == block then role c else None
+abbrev pub at_one : ℕ → PageChange → ℕ → PageChange
+at_one a change block c = if a == block then change c else None
 
--- one that touches two; where both are this one, the first role goes first
-abbrev pub at_two : ℕ → Role → ℕ → Role → ℕ → Role
+-- one that touches two; where both are this one, the first change goes first
+abbrev pub at_two : ℕ → PageChange → ℕ → PageChange → ℕ → PageChange
 at_two a first b second block c =
     if a == block then (if b == block then option_and_then second (first c) else first c) else at_one b second block c
 
 -- The page of a block after an event, but for its number. There is none where the event does not touch the block, or the
 -- page lacks what the event needs. A passing event touches no block.
-abbrev pub changed : Event → Params → ℕ → ℕ → Role
+abbrev pub changed : Event → Params → ℕ → ℕ → PageChange
 changed (Put at list_at version level id bits lists) p wrap block c =
-    at_two at.block (put_element p at list_at version level id bits lists) list_at.block (put_links p list_at version level bits lists) block c
-changed (Join at version id) p wrap block c = at_one at.block (on_graph p (head_changed (joined version id) p at.off)) block c
+    let n = new_node at list_at version level id bits lists in
+    at_two at.block (put_element p n) list_at.block (put_links p n) block c
+changed (Join at version id) p wrap block c =
+    at_one at.block (on_graph p (head_changed (joined version id) p at.off)) block c
 changed (Link at list_at version slot to) p wrap block c =
     at_one list_at.block (on_graph p (links_changed (linked version slot to) p list_at.off)) block c
 changed (Relist at list_at version lists) p wrap block c =
     at_one list_at.block (on_graph p (links_changed (relisted version lists) p list_at.off)) block c
-changed (Drop at version gone) p wrap block c = at_one at.block (on_graph p (head_changed (dropped version gone) p at.off)) block c
+changed (Drop at version gone) p wrap block c =
+    at_one at.block (on_graph p (head_changed (dropped version gone) p at.off)) block c
 changed (Mark at list_at version) p wrap block c =
-    at_two at.block (on_graph p (head_changed (marked wrap version) p at.off)) list_at.block (on_graph p (links_changed (emptied wrap version) p list_at.off)) block c
+    at_two at.block (on_graph p (head_changed (marked wrap version) p at.off))
+    list_at.block (on_graph p (links_changed (emptied wrap version) p list_at.off)) block c
 changed (Entry to level) p wrap block c = at_one 0 (on_meta (meta_changed (entered to level))) block c
 changed (Hint hint) p wrap block c = at_one 0 (on_meta (meta_changed (hinted hint))) block c
 changed (IvfAdd to id bits) p wrap block c = at_one to (entry_added p id bits) block c
@@ -43,7 +47,7 @@ changed _ p wrap block c = None
 abbrev pub numbered : ℕ → Content → Content
 numbered number c = record c { number = number }
 
-abbrev pub redone : Event → Params → ℕ → ℕ → ℕ → Role
+abbrev pub redone : Event → Params → ℕ → ℕ → ℕ → PageChange
 redone event p wrap number block c = option_map (numbered number) (changed event p wrap block c)
 
 -- The page became what is given; where nothing is given it stayed.

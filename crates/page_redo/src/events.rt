@@ -1,19 +1,19 @@
 //! What an event does to the page of a block.
 
 ghost use Rattle.vec_names.specs.Params.{IsInRange};
-ghost use Rattle.page_redo.specs.Items.{head_changed, links_changed};
-ghost use Rattle.page_redo.specs.Roles.{on_graph, marked, emptied, put_element, put_links, grown, chained};
+ghost use Rattle.page_redo.specs.PageChanges.{put_element, put_links, grown, chained};
 ghost use Rattle.page_redo.specs.Redo.{at_two, changed, redone, Becomes};
+ghost use Rattle.page_redo.specs.OfParts.{IsMade, node_of, delete_element, delete_links};
 
-use crate::both::{grow_both, mark_both, put_both};
 use crate::fault::RedoFault;
-use crate::graph::{drop_ids, empty, enter, hint, join, link, mark, relist};
-use crate::lists::{add_entry, aim, chain, drop_entries, grow};
-use crate::put::{NewNode, put_element, put_links};
-use bit_code::Bits;
+use crate::head_changes::HeadChange;
+use crate::in_place::{Deletion, change_head, empty, enter, hint, link, mark, relist};
+use crate::list_pages::{Growth, add_entry, aim, chain, drop_entries, grow, list_block};
+use crate::new_node::{NewNode, put_element, put_links};
+use crate::two_places::{grow_both, mark_both, put_both};
 use page_bytes::Page;
 use vec_history::Event;
-use vec_names::{HeapId, Params, Tid};
+use vec_names::Params;
 
 /// Does to the page of a block what an event does to it, and gives the page the event's number. `params` are the
 /// index's. `wrap`, 15 or 255, is the version after which a Mark takes 1; after 255 it takes 1 as well. It takes no
@@ -32,20 +32,17 @@ pub fn redo(
     requires { IsInRange params.now }
     ensures { Becomes (redone event.now params.now wrap number block page.old) page.old page.new result }
 {
-    change(event, params, wrap, block, page)?;
+    if change(event, params, wrap, block, page).is_none() {
+        return Err(RedoFault::Unfit);
+    }
     page.set_number(number);
     Ok(())
 }
 
-fn change(
-    event: &Event,
-    params: &Params,
-    wrap: u8,
-    block: u32,
-    page: &mut Page,
-) -> Result<(), RedoFault>
+/// The page but for its number. None where the event does not fit the page, which then stays.
+fn change(event: &Event, params: &Params, wrap: u8, block: u32, page: &mut Page) -> Option<()>
     requires { IsInRange params.now }
-    ensures { Becomes (changed event.now params.now wrap block page.old) page.old page.new result }
+    ensures { IsMade (changed event.now params.now wrap block page.old) page.old page.new result }
 {
     match event {
         Event::Put {
@@ -67,63 +64,131 @@ fn change(
                 level: *level,
                 id: *id,
                 bits,
-                lists: lists.as_slice(),
+                slots: lists.as_slice(),
             },
         ),
-        Event::Join { at, version, id } => join(page, params, block, *at, *version, *id),
+        Event::Join { at, version, id } => {
+            if at.block != block {
+                return None;
+            }
+            let change = HeadChange::MoreIds {
+                version: *version,
+                id: *id,
+            };
+            change_head(page, params, at.off, change)
+        }
         Event::Link {
             at: _,
             list_at,
             version,
             slot,
             to,
-        } => link(page, params, block, *list_at, *version, *slot, *to),
+        } => {
+            if list_at.block != block {
+                return None;
+            }
+            link(page, params, list_at.off, *version, *slot, *to)
+        }
         Event::Relist {
             at: _,
             list_at,
             version,
             lists,
-        } => relist(page, params, block, *list_at, *version, lists.as_slice()),
-        Event::Drop { at, version, gone } => drop_ids(page, params, block, *at, *version, *gone),
+        } => {
+            if list_at.block != block {
+                return None;
+            }
+            relist(page, params, list_at.off, *version, lists.as_slice())
+        }
+        Event::Drop { at, version, gone } => {
+            if at.block != block {
+                return None;
+            }
+            let change = HeadChange::FewerIds {
+                version: *version,
+                gone: *gone,
+            };
+            change_head(page, params, at.off, change)
+        }
         Event::Mark {
             at,
             list_at,
             version,
-        } => mark_node(page, params, block, wrap, *at, *list_at, *version),
-        Event::Entry { to, level } => enter(page, block, *to, *level),
-        Event::Hint { block: room } => hint(page, block, *room),
+        } => mark_node(
+            page,
+            params,
+            block,
+            Deletion {
+                at: *at,
+                list_at: *list_at,
+                version: *version,
+                wrap,
+            },
+        ),
+        Event::Entry { to, level } => {
+            if block != 0 {
+                return None;
+            }
+            enter(page, *to, *level)
+        }
+        Event::Hint { block: room } => {
+            if block != 0 {
+                return None;
+            }
+            hint(page, *room)
+        }
         Event::IvfAdd {
             block: to,
             id,
             bits,
-        } => add_entry(page, params, block, *to, *id, bits),
+        } => {
+            if *to != block {
+                return None;
+            }
+            add_entry(page, params, *id, bits)
+        }
         Event::IvfGrow {
             list: _,
             last,
             block: new,
             id,
             bits,
-        } => grow_chain(page, params, block, *last, *new, *id, bits),
-        Event::IvfDrop { block: of, gone } => drop_entries(
+        } => grow_chain(
             page,
             params,
             block,
-            *of,
-            gone.as_slice(),
+            Growth {
+                last: *last,
+                new: *new,
+                id: *id,
+                bits,
+            },
         ),
-        Event::IvfHint { list, block: to } => aim(page, params, block, *list, *to),
-        _ => Err(RedoFault::Unfit),
+        Event::IvfDrop { block: of, gone } => {
+            if *of != block {
+                return None;
+            }
+            drop_entries(page, params, gone.as_slice())
+        }
+        Event::IvfHint { list, block: to } => {
+            if list_block(params, *list) != u64::from(block) {
+                return None;
+            }
+            aim(page, params, *list, *to)
+        }
+        _ => None,
     }
 }
 
 /// A new node, where both of its tuples stand on the block or one of them does.
-fn put_node(page: &mut Page, params: &Params, block: u32, node: NewNode) -> Result<(), RedoFault>
+fn put_node(page: &mut Page, params: &Params, block: u32, node: NewNode) -> Option<()>
     requires { IsInRange params.now }
-    ensures { Becomes (at_two node.entry.at.block (put_element params.now node.entry.at node.entry.list_at node.entry.version node.entry.level node.entry.id node.entry.bits.now node.entry.lists.now) node.entry.list_at.block (put_links params.now node.entry.list_at node.entry.version node.entry.level node.entry.bits.now node.entry.lists.now) block page.old) page.old page.new result }
+    ensures { let n = node_of node.entry in
+        IsMade (at_two n.at.block (put_element params.now n) n.list_at.block (put_links params.now n) block page.old) page.old page.new result }
 {
     if node.at.block != block {
         if node.list_at.block != block {
-            return Err(RedoFault::Unfit);
+            return None;
         }
         return put_links(page, params, node);
     }
@@ -134,50 +199,38 @@ fn put_node(page: &mut Page, params: &Params, block: u32, node: NewNode) -> Resu
 }
 
 /// A node is deleted, where both of its tuples stand on the block or one of them does.
-fn mark_node(
-    page: &mut Page,
-    params: &Params,
-    block: u32,
-    wrap: u8,
-    at: Tid,
-    list_at: Tid,
-    version: u8,
-) -> Result<(), RedoFault>
+fn mark_node(page: &mut Page, params: &Params, block: u32, node: Deletion) -> Option<()>
     requires { IsInRange params.now }
-    ensures { Becomes (at_two at.block (on_graph params.now (head_changed (marked wrap version) params.now at.off)) list_at.block (on_graph params.now (links_changed (emptied wrap version) params.now list_at.off)) block page.old) page.old page.new result }
+    ensures { IsMade
+        (at_two node.at.block (delete_element params.now node) node.list_at.block (delete_links params.now node) block page.old)
+        page.old page.new result }
 {
-    if at.block != block {
-        if list_at.block != block {
-            return Err(RedoFault::Unfit);
+    if node.at.block != block {
+        if node.list_at.block != block {
+            return None;
         }
-        return empty(page, params, wrap, list_at.off, version);
+        return empty(page, params, node);
     }
-    if list_at.block != block {
-        return mark(page, params, wrap, at.off, version);
+    if node.list_at.block != block {
+        return mark(page, params, node);
     }
-    mark_both(page, params, wrap, at.off, list_at.off, version)
+    mark_both(page, params, node)
 }
 
 /// A page more at the end of a list's chain, which is the block or follows it.
-fn grow_chain(
-    page: &mut Page,
-    params: &Params,
-    block: u32,
-    last: u32,
-    new: u32,
-    id: HeapId,
-    bits: &Bits,
-) -> Result<(), RedoFault>
-    ensures { Becomes (at_two new (grown params.now id bits.now) last (chained params.now new bits.now) block page.old) page.old page.new result }
+fn grow_chain(page: &mut Page, params: &Params, block: u32, growth: Growth) -> Option<()>
+    ensures { let g = growth.entry in
+        IsMade (at_two g.new (grown params.now g.id g.bits.now) g.last (chained params.now g.new g.bits.now) block page.old)
+        page.old page.new result }
 {
-    if new != block {
-        if last != block {
-            return Err(RedoFault::Unfit);
+    if growth.new != block {
+        if growth.last != block {
+            return None;
         }
-        return chain(page, params, new, bits);
+        return chain(page, params, growth.new, growth.bits);
     }
-    if last != block {
-        return grow(page, params, id, bits);
+    if growth.last != block {
+        return grow(page, params, growth.id, growth.bits);
     }
-    grow_both(page, params, new, id, bits)
+    grow_both(page, params, growth)
 }

@@ -92,14 +92,14 @@ fn put(alloc: Global, off: u16, version: u8, bits: Bits, count: usize) -> Result
     })
 }
 
-/// Whether the event fits the page of a block; then its number is given to the page, and else the page stays.
-fn fits(event: &Event, params: Params, wrap: u8, block: u32, page: &mut Page) -> bool {
+/// Whether the event is redone on the page of a block; then its number is given to the page, and else the page stays.
+fn is_redone(event: &Event, params: Params, wrap: u8, block: u32, page: &mut Page) -> bool {
     if !params.check() {
         return false;
     }
     let before = page.copied();
-    let fits = redo(event, &params, wrap, 0x0708, block, page).is_ok();
-    if fits {
+    let is_redone = redo(event, &params, wrap, 0x0708, block, page).is_ok();
+    if is_redone {
         page.number() == 0x0708
     } else {
         page.bytes() != before.bytes()
@@ -129,7 +129,7 @@ fn a_node_through_its_events(rt: HostRuntime) -> Result<(), Fail> {
     let alloc = rt.alloc();
     let mut page = Page::fresh(PageKind::Hnsw);
     let new = put(alloc, 1, 1, read_bits(alloc, "0000")?, 4)?;
-    assert!(rt; fits(&new, GRAPH, 255, 1, &mut page));
+    assert!(rt; is_redone(&new, GRAPH, 255, 1, &mut page));
     assert!(rt; page.item(1) == Some(&ELEMENT) && page.item(2) == Some(&SLOTS));
 
     // The element is the first item, and stands at 8,096.
@@ -140,7 +140,7 @@ fn a_node_through_its_events(rt: HostRuntime) -> Result<(), Fail> {
         version: 1,
         id: row(3),
     };
-    assert!(rt; fits(&join, GRAPH, 255, 1, &mut page));
+    assert!(rt; is_redone(&join, GRAPH, 255, 1, &mut page));
     assert!(rt; shows(&page, 1, &ELEMENT, 10, &[0, 0, 1, 0, 3, 0]));
     let link = Event::Link {
         at: place(1),
@@ -149,7 +149,7 @@ fn a_node_through_its_events(rt: HostRuntime) -> Result<(), Fail> {
         slot: 1,
         to: place(3),
     };
-    assert!(rt; fits(&link, GRAPH, 255, 1, &mut page));
+    assert!(rt; is_redone(&link, GRAPH, 255, 1, &mut page));
     assert!(rt; shows(&page, 2, &SLOTS, 10, &[0, 0, 1, 0, 3, 0]));
     let mut lists = slots(alloc, 3)?;
     lists.push(Some(place(5)))?;
@@ -159,7 +159,7 @@ fn a_node_through_its_events(rt: HostRuntime) -> Result<(), Fail> {
         version: 1,
         lists,
     };
-    assert!(rt; fits(&relist, GRAPH, 255, 1, &mut page));
+    assert!(rt; is_redone(&relist, GRAPH, 255, 1, &mut page));
     assert!(rt; shows(&page, 2, &SLOTS, 22, &[0, 0, 1, 0, 5, 0]));
 
     // The first id goes, and the second one closes up.
@@ -168,7 +168,7 @@ fn a_node_through_its_events(rt: HostRuntime) -> Result<(), Fail> {
         version: 1,
         gone: 1,
     };
-    assert!(rt; fits(&gone, GRAPH, 255, 1, &mut page));
+    assert!(rt; is_redone(&gone, GRAPH, 255, 1, &mut page));
     assert!(rt; shows(&page, 1, &ELEMENT, 4, &[0, 0, 1, 0, 3, 0]));
     Ok(())
 }
@@ -188,13 +188,13 @@ fn a_deleted_place_is_used_again(rt: HostRuntime) -> Result<(), Fail> {
     ] {
         let mut page = Page::fresh(PageKind::Hnsw);
         let new = put(alloc, 1, version, read_bits(alloc, "1111")?, 4)?;
-        assert!(rt; fits(&new, GRAPH, wrap, 1, &mut page));
+        assert!(rt; is_redone(&new, GRAPH, wrap, 1, &mut page));
         let mark = Event::Mark {
             at: place(1),
             list_at: place(2),
             version,
         };
-        assert!(rt; fits(&mark, GRAPH, wrap, 1, &mut page));
+        assert!(rt; is_redone(&mark, GRAPH, wrap, 1, &mut page));
         assert!(rt; shows(&page, 1, &ELEMENT, 2, &[1, next, 255, 255, 255, 255, 0, 0]));
         assert!(rt; shows(&page, 2, &SLOTS, 0, &[3, next]));
         let join = Event::Join {
@@ -202,9 +202,9 @@ fn a_deleted_place_is_used_again(rt: HostRuntime) -> Result<(), Fail> {
             version: next,
             id: row(3),
         };
-        assert!(rt; !fits(&join, GRAPH, wrap, 1, &mut page));
+        assert!(rt; !is_redone(&join, GRAPH, wrap, 1, &mut page));
         let again = put(alloc, 1, next, read_bits(alloc, "0000")?, 4)?;
-        assert!(rt; fits(&again, GRAPH, wrap, 1, &mut page));
+        assert!(rt; is_redone(&again, GRAPH, wrap, 1, &mut page));
         assert!(rt; shows(&page, 1, &ELEMENT, 3, &[next]) && page.count() == 2);
         assert!(rt; shows(&page, 2, &SLOTS, 1, &[next]));
     }
@@ -216,10 +216,10 @@ fn the_meta_page(rt: HostRuntime) {
     let mut page = Page::fresh(PageKind::Meta);
     page.add_item(&META);
     let to = Some(place(3));
-    assert!(rt; fits(&Event::Entry { to, level: 2 }, GRAPH, 255, 0, &mut page));
+    assert!(rt; is_redone(&Event::Entry { to, level: 2 }, GRAPH, 255, 0, &mut page));
     assert!(rt; shows(&page, 1, &META, 20, &[0, 0, 1, 0, 3, 0, 2]));
     assert!(rt;
-        fits(
+        is_redone(
             &Event::Entry { to: None, level: 0 },
             GRAPH,
             255,
@@ -227,10 +227,10 @@ fn the_meta_page(rt: HostRuntime) {
             &mut page
         )
     );
-    assert!(rt; fits(&Event::Hint { block: 0x8000 }, GRAPH, 255, 0, &mut page));
+    assert!(rt; is_redone(&Event::Hint { block: 0x8000 }, GRAPH, 255, 0, &mut page));
     assert!(rt; shows(&page, 1, &META, 28, &[0, 0x80]));
     assert!(rt;
-        !fits(
+        !is_redone(
             &Event::Entry { to: None, level: 1 },
             GRAPH,
             255,
@@ -238,9 +238,9 @@ fn the_meta_page(rt: HostRuntime) {
             &mut page
         )
     );
-    assert!(rt; !fits(&Event::Hint { block: 0 }, GRAPH, 255, 0, &mut page));
-    assert!(rt; !fits(&Event::Hint { block: 0x8001 }, GRAPH, 255, 0, &mut page));
-    assert!(rt; !fits(&Event::Hint { block: 1 }, GRAPH, 255, 1, &mut page));
+    assert!(rt; !is_redone(&Event::Hint { block: 0 }, GRAPH, 255, 0, &mut page));
+    assert!(rt; !is_redone(&Event::Hint { block: 0x8001 }, GRAPH, 255, 0, &mut page));
+    assert!(rt; !is_redone(&Event::Hint { block: 1 }, GRAPH, 255, 1, &mut page));
 }
 
 fn add(alloc: Global, block: u32, off: u16) -> Result<Event, Fail> {
@@ -263,15 +263,15 @@ fn entries_of_lists(rt: HostRuntime) -> Result<(), Fail> {
     let alloc = rt.alloc();
     let mut page = Page::fresh(PageKind::IvfEntries);
     for off in [2, 3, 4] {
-        assert!(rt; fits(&add(alloc, 2, off)?, LISTS, 255, 2, &mut page));
+        assert!(rt; is_redone(&add(alloc, 2, off)?, LISTS, 255, 2, &mut page));
     }
     assert!(rt; page.item(1) == Some(&ENTRY) && shows(&page, 3, &ENTRY, 4, &[4]));
 
     // Offsets rise, and are there.
     for (first, second) in [(1, 4), (2, 2), (2, 1), (0, 1)] {
-        assert!(rt; !fits(&drop_two(alloc, first, second)?, LISTS, 255, 2, &mut page));
+        assert!(rt; !is_redone(&drop_two(alloc, first, second)?, LISTS, 255, 2, &mut page));
     }
-    assert!(rt; fits(&drop_two(alloc, 1, 3)?, LISTS, 255, 2, &mut page));
+    assert!(rt; is_redone(&drop_two(alloc, 1, 3)?, LISTS, 255, 2, &mut page));
     assert!(rt; page.count() == 1 && shows(&page, 1, &ENTRY, 4, &[3]));
 
     let grow = Event::IvfGrow {
@@ -281,12 +281,12 @@ fn entries_of_lists(rt: HostRuntime) -> Result<(), Fail> {
         id: row(2),
         bits: read_bits(alloc, "0011")?,
     };
-    assert!(rt; !fits(&grow, LISTS, 255, 3, &mut page));
-    assert!(rt; fits(&grow, LISTS, 255, 2, &mut page) && page.next() == Some(3));
+    assert!(rt; !is_redone(&grow, LISTS, 255, 3, &mut page));
+    assert!(rt; is_redone(&grow, LISTS, 255, 2, &mut page) && page.next() == Some(3));
     let mut new = Page::fresh(PageKind::IvfEntries);
-    assert!(rt; fits(&grow, LISTS, 255, 3, &mut new));
+    assert!(rt; is_redone(&grow, LISTS, 255, 3, &mut new));
     assert!(rt; new.item(1) == Some(&ENTRY) && new.next().is_none() && new.count() == 1);
-    assert!(rt; !fits(&add(alloc, 2, 2)?, GRAPH, 255, 2, &mut page));
+    assert!(rt; !is_redone(&add(alloc, 2, 2)?, GRAPH, 255, 2, &mut page));
     Ok(())
 }
 
@@ -295,11 +295,11 @@ fn the_aim_of_a_list(rt: HostRuntime) {
     let mut page = Page::fresh(PageKind::IvfLists);
     page.add_item(&CENTRE);
     let aim = Event::IvfHint { list: 0, block: 5 };
-    assert!(rt; fits(&aim, LISTS, 255, 1, &mut page));
+    assert!(rt; is_redone(&aim, LISTS, 255, 1, &mut page));
     assert!(rt; shows(&page, 1, &CENTRE, 4, &[5]));
-    assert!(rt; !fits(&aim, LISTS, 255, 2, &mut page));
+    assert!(rt; !is_redone(&aim, LISTS, 255, 2, &mut page));
     assert!(rt;
-        !fits(
+        !is_redone(
             &Event::IvfHint { list: 1, block: 5 },
             LISTS,
             255,
@@ -313,7 +313,9 @@ fn the_aim_of_a_list(rt: HostRuntime) {
         list: 291,
         block: 5,
     };
-    assert!(rt; !fits(&next, LISTS, 255, 1, &mut page) && fits(&next, LISTS, 255, 2, &mut page));
+    assert!(rt;
+        !is_redone(&next, LISTS, 255, 1, &mut page) && is_redone(&next, LISTS, 255, 2, &mut page)
+    );
 }
 
 #[test]
@@ -321,12 +323,14 @@ fn causes_of_unfit(rt: HostRuntime) -> Result<(), Fail> {
     let alloc = rt.alloc();
     let mut page = Page::fresh(PageKind::Hnsw);
     let new = put(alloc, 1, 1, read_bits(alloc, "0000")?, 4)?;
-    assert!(rt; fits(&new, GRAPH, 255, 1, &mut page));
+    assert!(rt; is_redone(&new, GRAPH, 255, 1, &mut page));
 
     // A live place, another block, and an offset that is not the next.
-    assert!(rt; !fits(&new, GRAPH, 255, 1, &mut page) && !fits(&new, GRAPH, 255, 2, &mut page));
     assert!(rt;
-        !fits(
+        !is_redone(&new, GRAPH, 255, 1, &mut page) && !is_redone(&new, GRAPH, 255, 2, &mut page)
+    );
+    assert!(rt;
+        !is_redone(
             &put(alloc, 4, 1, read_bits(alloc, "0000")?, 4)?,
             GRAPH,
             255,
@@ -337,7 +341,7 @@ fn causes_of_unfit(rt: HostRuntime) -> Result<(), Fail> {
 
     // A value of another length, and another number of slots.
     assert!(rt;
-        !fits(
+        !is_redone(
             &put(alloc, 3, 1, read_bits(alloc, "00000")?, 4)?,
             GRAPH,
             255,
@@ -346,7 +350,7 @@ fn causes_of_unfit(rt: HostRuntime) -> Result<(), Fail> {
         )
     );
     assert!(rt;
-        !fits(
+        !is_redone(
             &put(alloc, 3, 1, read_bits(alloc, "0000")?, 6)?,
             GRAPH,
             255,
@@ -362,20 +366,20 @@ fn causes_of_unfit(rt: HostRuntime) -> Result<(), Fail> {
             version,
             id: row(2),
         };
-        assert!(rt; !fits(&join, GRAPH, 255, 1, &mut page));
+        assert!(rt; !is_redone(&join, GRAPH, 255, 1, &mut page));
         let mark = Event::Mark {
             at: place(off),
             list_at: place(2),
             version,
         };
-        assert!(rt; !fits(&mark, GRAPH, 255, 1, &mut page));
+        assert!(rt; !is_redone(&mark, GRAPH, 255, 1, &mut page));
     }
     let mark = Event::Mark {
         at: place(1),
         list_at: place(3),
         version: 1,
     };
-    assert!(rt; !fits(&mark, GRAPH, 255, 1, &mut page));
+    assert!(rt; !is_redone(&mark, GRAPH, 255, 1, &mut page));
 
     // A slot and an id that are not there, and another number of slots.
     for (off, version, slot) in [(2, 1, 4), (2, 2, 0), (1, 1, 0)] {
@@ -386,21 +390,21 @@ fn causes_of_unfit(rt: HostRuntime) -> Result<(), Fail> {
             slot,
             to: place(3),
         };
-        assert!(rt; !fits(&link, GRAPH, 255, 1, &mut page));
+        assert!(rt; !is_redone(&link, GRAPH, 255, 1, &mut page));
     }
     let gone = Event::Drop {
         at: place(1),
         version: 1,
         gone: 2,
     };
-    assert!(rt; !fits(&gone, GRAPH, 255, 1, &mut page));
+    assert!(rt; !is_redone(&gone, GRAPH, 255, 1, &mut page));
     let relist = Event::Relist {
         at: place(1),
         list_at: place(2),
         version: 1,
         lists: slots(alloc, 6)?,
     };
-    assert!(rt; !fits(&relist, GRAPH, 255, 1, &mut page));
+    assert!(rt; !is_redone(&relist, GRAPH, 255, 1, &mut page));
     Ok(())
 }
 
@@ -409,26 +413,26 @@ fn no_room_no_kind_no_eleventh_id(rt: HostRuntime) -> Result<(), Fail> {
     let alloc = rt.alloc();
     let mut page = Page::fresh(PageKind::Hnsw);
     let new = put(alloc, 1, 1, read_bits(alloc, "0000")?, 4)?;
-    assert!(rt; fits(&new, GRAPH, 255, 1, &mut page));
+    assert!(rt; is_redone(&new, GRAPH, 255, 1, &mut page));
     for off in 2..11 {
         let join = Event::Join {
             at: place(1),
             version: 1,
             id: row(off),
         };
-        assert!(rt; fits(&join, GRAPH, 255, 1, &mut page));
+        assert!(rt; is_redone(&join, GRAPH, 255, 1, &mut page));
     }
     let join = Event::Join {
         at: place(1),
         version: 1,
         id: row(11),
     };
-    assert!(rt; !fits(&join, GRAPH, 255, 1, &mut page));
+    assert!(rt; !is_redone(&join, GRAPH, 255, 1, &mut page));
 
     // The index is one of lists, the event passes, the page is of another kind.
-    assert!(rt; !fits(&add(alloc, 1, 2)?, LISTS, 255, 1, &mut page));
+    assert!(rt; !is_redone(&add(alloc, 1, 2)?, LISTS, 255, 1, &mut page));
     assert!(rt;
-        !fits(
+        !is_redone(
             &Event::Ungate { gate: Gate::Update },
             GRAPH,
             255,
@@ -436,18 +440,18 @@ fn no_room_no_kind_no_eleventh_id(rt: HostRuntime) -> Result<(), Fail> {
             &mut page
         )
     );
-    assert!(rt; !fits(&Event::Hint { block: 1 }, GRAPH, 255, 0, &mut page));
-    assert!(rt; !fits(&new, GRAPH, 255, 1, &mut Page::fresh(PageKind::IvfEntries)));
+    assert!(rt; !is_redone(&Event::Hint { block: 1 }, GRAPH, 255, 0, &mut page));
+    assert!(rt; !is_redone(&new, GRAPH, 255, 1, &mut Page::fresh(PageKind::IvfEntries)));
 
     // The element has room, and its list has not: 92 bytes are taken, and 36 are wanted.
     let mut full = Page::fresh(PageKind::Hnsw);
     full.add_item(&[1; 8024]);
     assert!(rt; full.free() == 132);
     let next = put(alloc, 2, 1, read_bits(alloc, "0000")?, 4)?;
-    assert!(rt; fits(&next, GRAPH, 255, 1, &mut full.copied()));
+    assert!(rt; is_redone(&next, GRAPH, 255, 1, &mut full.copied()));
     full.add_item(&[1]);
     assert!(rt;
-        !fits(
+        !is_redone(
             &put(alloc, 3, 1, read_bits(alloc, "0000")?, 4)?,
             GRAPH,
             255,
@@ -478,33 +482,33 @@ fn both_places_on_one_page(rt: HostRuntime) -> Result<(), Fail> {
 
     // The list's place is the element's, before it, or not the next one.
     for (off, list_off) in [(1, 1), (2, 1), (1, 3)] {
-        assert!(rt; !fits(&put_at(alloc, off, list_off, 1)?, GRAPH, 255, 1, &mut page));
+        assert!(rt; !is_redone(&put_at(alloc, off, list_off, 1)?, GRAPH, 255, 1, &mut page));
     }
-    assert!(rt; fits(&put_at(alloc, 1, 2, 1)?, GRAPH, 255, 1, &mut page));
-    assert!(rt; fits(&put_at(alloc, 3, 4, 1)?, GRAPH, 255, 1, &mut page));
+    assert!(rt; is_redone(&put_at(alloc, 1, 2, 1)?, GRAPH, 255, 1, &mut page));
+    assert!(rt; is_redone(&put_at(alloc, 3, 4, 1)?, GRAPH, 255, 1, &mut page));
     for (list_off, version) in [(1, 1), (3, 1), (5, 1), (2, 2)] {
         let mark = Event::Mark {
             at: place(1),
             list_at: place(list_off),
             version,
         };
-        assert!(rt; !fits(&mark, GRAPH, 255, 1, &mut page));
+        assert!(rt; !is_redone(&mark, GRAPH, 255, 1, &mut page));
     }
     let mark = Event::Mark {
         at: place(1),
         list_at: place(2),
         version: 1,
     };
-    assert!(rt; fits(&mark, GRAPH, 255, 1, &mut page));
+    assert!(rt; is_redone(&mark, GRAPH, 255, 1, &mut page));
 
     // The element may go, and the list is a live one, an element, or the same place. Then both may go, or the list stands
     // behind the last item.
     for list_off in [4, 3, 1, 6] {
-        assert!(rt; !fits(&put_at(alloc, 1, list_off, 2)?, GRAPH, 255, 1, &mut page));
+        assert!(rt; !is_redone(&put_at(alloc, 1, list_off, 2)?, GRAPH, 255, 1, &mut page));
     }
-    assert!(rt; fits(&put_at(alloc, 1, 2, 2)?, GRAPH, 255, 1, &mut page.copied()));
-    assert!(rt; fits(&put_at(alloc, 1, 5, 2)?, GRAPH, 255, 1, &mut page.copied()));
-    assert!(rt; fits(&put_at(alloc, 5, 2, 2)?, GRAPH, 255, 1, &mut page) && page.count() == 5);
+    assert!(rt; is_redone(&put_at(alloc, 1, 2, 2)?, GRAPH, 255, 1, &mut page.copied()));
+    assert!(rt; is_redone(&put_at(alloc, 1, 5, 2)?, GRAPH, 255, 1, &mut page.copied()));
+    assert!(rt; is_redone(&put_at(alloc, 5, 2, 2)?, GRAPH, 255, 1, &mut page) && page.count() == 5);
     Ok(())
 }
 
@@ -518,9 +522,73 @@ fn a_chain_that_goes_on_at_its_own_page(rt: HostRuntime) -> Result<(), Fail> {
         id: row(2),
         bits: read_bits(rt.alloc(), "0011")?,
     };
-    assert!(rt; fits(&grow, LISTS, 255, 3, &mut page));
+    assert!(rt; is_redone(&grow, LISTS, 255, 3, &mut page));
     assert!(rt; page.item(1) == Some(&ENTRY) && page.next() == Some(3) && page.count() == 1);
-    assert!(rt; !fits(&grow, LISTS, 255, 3, &mut page));
+    assert!(rt; !is_redone(&grow, LISTS, 255, 3, &mut page));
+    Ok(())
+}
+
+/// The event of a node of level 0 with the value 0000, whose places are on two blocks.
+fn put_apart(alloc: Global, at: Tid, list_at: Tid, version: u8) -> Result<Event, Fail> {
+    Ok(Event::Put {
+        at,
+        list_at,
+        version,
+        level: 0,
+        id: row(1),
+        bits: read_bits(alloc, "0000")?,
+        lists: slots(alloc, 4)?,
+    })
+}
+
+/// The element on block 1 and its list on block 2, both fresh: put, marked, and put again.
+#[test]
+fn a_node_over_two_pages(rt: HostRuntime) -> Result<(), Fail> {
+    let alloc = rt.alloc();
+    let mut first = Page::fresh(PageKind::Hnsw);
+    let mut second = Page::fresh(PageKind::Hnsw);
+    let at = place(1);
+    let list_at = Tid { block: 2, off: 1 };
+    let new = put_apart(alloc, at, list_at, 1)?;
+    assert!(rt; is_redone(&new, GRAPH, 255, 1, &mut first) && first.count() == 1);
+    assert!(rt; shows(&first, 1, &ELEMENT, 64, &[0, 0, 2, 0, 1, 0]));
+    assert!(rt; is_redone(&new, GRAPH, 255, 2, &mut second) && second.count() == 1);
+    assert!(rt; second.item(1) == Some(&SLOTS));
+    assert!(rt; !is_redone(&new, GRAPH, 255, 3, &mut Page::fresh(PageKind::Hnsw)));
+
+    let mark = Event::Mark {
+        at,
+        list_at,
+        version: 1,
+    };
+    assert!(rt; is_redone(&mark, GRAPH, 255, 1, &mut first));
+    let Some(element) = first.item(1) else {
+        panic!(rt; "no item stands there")
+    };
+    assert!(rt; element.get(..10) == Some([1, 0, 1, 2, 255, 255, 255, 255, 0, 0].as_slice()));
+    assert!(rt; is_redone(&mark, GRAPH, 255, 2, &mut second));
+    assert!(rt; shows(&second, 1, &SLOTS, 0, &[3, 2]));
+
+    // The deleted places are taken again, each on its block.
+    let again = put_apart(alloc, at, list_at, 2)?;
+    assert!(rt; is_redone(&again, GRAPH, 255, 1, &mut first) && first.count() == 1);
+    assert!(rt; is_redone(&again, GRAPH, 255, 2, &mut second) && second.count() == 1);
+    assert!(rt; shows(&second, 1, &SLOTS, 1, &[2]));
+    Ok(())
+}
+
+/// The element on a fresh block, and its list behind the items of an older one.
+#[test]
+fn a_list_on_an_old_block(rt: HostRuntime) -> Result<(), Fail> {
+    let alloc = rt.alloc();
+    let mut old = Page::fresh(PageKind::Hnsw);
+    assert!(rt; is_redone(&put_at(alloc, 1, 2, 1)?, GRAPH, 255, 1, &mut old));
+    let at = Tid { block: 2, off: 1 };
+    let new = put_apart(alloc, at, place(3), 1)?;
+    let mut fresh = Page::fresh(PageKind::Hnsw);
+    assert!(rt; is_redone(&new, GRAPH, 255, 2, &mut fresh) && fresh.count() == 1);
+    assert!(rt; is_redone(&new, GRAPH, 255, 1, &mut old) && old.count() == 3);
+    assert!(rt; old.item(1) == Some(&ELEMENT) && old.item(3) == Some(&SLOTS));
     Ok(())
 }
 

@@ -8,8 +8,8 @@ ghost use Rattle.vec_tuples.specs.Spelling.{length_word, bits_bytes, beside};
 ghost use Rattle.vec_tuples.specs.Reading.{clear_places, bit_value, value_with, value_of};
 ghost use Rattle.byte_fields.specs.Answers.{Gives};
 
-use index_sizes::MOST_BITS;
 use byte_fields::{Stop, four_bytes_from, packed_places};
+use index_sizes::MOST_BITS;
 
 /// The word that stands before a value of so many places, as PostgreSQL keeps a length: the number of
 /// bytes from the word on, shifted left by two.

@@ -9,13 +9,13 @@ ghost use Rattle.byte_fields.specs.Answers.{Gives};
 ghost use Rattle.vec_tuples.specs.Answers.{IsReading, BeginsSome};
 ghost use Rattle.vec_tuples.specs.declared.element.Element.{Element};
 
-use index_sizes::MOST_BITS;
 use crate::bits::{clear_if, value_head, value_of};
 use crate::fault::TupleFault;
 use crate::rows::{fill_rows, rows};
 use arrayvec::ArrayVec;
 use bit_code::Bits;
 use byte_fields::{Stop, byte_from, place, put, two_bytes_from};
+use index_sizes::MOST_BITS;
 use std::alloc::Global;
 use vec_names::{HeapId, Params, Tid};
 

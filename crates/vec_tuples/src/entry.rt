@@ -11,11 +11,11 @@ ghost use Rattle.byte_fields.specs.Answers.{Gives};
 ghost use Rattle.vec_tuples.specs.Answers.{IsReading, BeginsSome};
 ghost use Rattle.vec_tuples.specs.declared.entry.EntryRow.{EntryRow};
 
-use index_sizes::MOST_BITS;
 use crate::bits::{bit_value, length_word};
 use crate::fault::TupleFault;
 use bit_code::Bits;
 use byte_fields::{Stop, heap_id, put, two_bytes_from};
+use index_sizes::MOST_BITS;
 use std::alloc::Global;
 use vec_names::{HeapId, Params};
 

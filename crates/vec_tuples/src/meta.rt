@@ -7,12 +7,12 @@ ghost use Rattle.vec_tuples.specs.Reading.{entry_of, hint_of, meta};
 ghost use Rattle.vec_tuples.specs.Answers.{IsReading, BeginsSome, IsFault};
 ghost use Rattle.vec_tuples.specs.declared.meta.Meta.{Meta};
 
-use index_sizes::MOST_BLOCKS;
 use crate::fault::TupleFault;
 use crate::parameters::params;
 use byte_fields::{
     Stop, byte_from, four_bytes_from, level_beside, no_place, optional_place, two_bytes_from,
 };
+use index_sizes::MOST_BLOCKS;
 use vec_names::{Kind, Ops, Params, Tid};
 
 /// The four bytes that a meta tuple begins with.

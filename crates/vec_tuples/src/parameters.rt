@@ -4,8 +4,8 @@ ghost use Rattle.std.specs.Prelude.{◌≡◌, ◌≤◌, IfOk};
 ghost use Rattle.byte_fields.specs.Answers.{Gives};
 ghost use Rattle.vec_tuples.specs.Reading.{kind, ops_of, m_of, ef_of, lists_of, params};
 
-use index_sizes::{MOST_BITS, MOST_BLOCKS};
 use byte_fields::{Stop, four_bytes_from, two_bytes_from};
+use index_sizes::{MOST_BITS, MOST_BLOCKS};
 use vec_names::{Kind, Ops, Params};
 
 #[tactic(auto, unfolding(crate::specs::Reading::params))]

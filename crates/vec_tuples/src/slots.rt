@@ -8,8 +8,8 @@ ghost use Rattle.byte_fields.specs.Answers.{Gives};
 ghost use Rattle.vec_tuples.specs.Reading.{slot_count, is_slot_count};
 ghost use Rattle.vec_tuples.specs.Answers.{Passes};
 
-use index_sizes::MOST_SLOTS;
 use byte_fields::{Stop, put, slot_of};
+use index_sizes::MOST_SLOTS;
 use vec_names::Tid;
 
 /// The number of slots, which a level must have beside this `m`.

@@ -2,7 +2,7 @@ use Rattle.std.proofs.Common.{Some, List, ℕ, sym, ap, ◌∙◌}
 use Rattle.std.specs.Option.{option_map, option_and_then}
 use Rattle.vec_tuples.specs.Spelling.{head_of_element}
 use Rattle.vec_tuples.specs.Reading.{element}
-use Rattle.page_redo.specs.Items.{in_whole}
+use Rattle.page_redo.specs.PageTuples.{in_whole}
 use Rattle.page_redo.proofs.items.head_at.Goals as goal
 
 pub returns-in-Some-clause-told : goal.returns-in-Some-clause-told

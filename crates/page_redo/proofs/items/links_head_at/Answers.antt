@@ -1,13 +1,13 @@
 use Rattle.std.proofs.Common.{Some, List, ℕ, sym, ap, ◌∙◌}
 use Rattle.std.specs.Option.{option_map, option_and_then}
-use Rattle.vec_tuples.specs.Spelling.{head_of_links}
+use Rattle.page_redo.specs.PageTuples.{links_head}
 use Rattle.vec_tuples.specs.Reading.{links}
-use Rattle.page_redo.specs.Items.{in_whole}
+use Rattle.page_redo.specs.PageTuples.{in_whole}
 use Rattle.page_redo.proofs.items.links_head_at.Goals as goal
 
 pub returns-in-Some-clause-told : goal.returns-in-Some-clause-told
 returns-in-Some-clause-told c =
-    c.links_head_of.ensures.told ∙ ap (λ o. option_map head_of_links (option_and_then (λ x. in_whole (links c.args.params.now x)) o)) c.in-Some.ensures
+    c.links_head_of.ensures.told ∙ ap (λ o. option_map links_head (option_and_then (λ x. in_whole (links c.args.params.now x)) o)) c.in-Some.ensures
 
 pub returns-in-Some-clause-spelled : goal.returns-in-Some-clause-spelled
 returns-in-Some-clause-spelled c = λ l is.

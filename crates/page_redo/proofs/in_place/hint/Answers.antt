@@ -1,0 +1,11 @@
+use Rattle.std.proofs.Common.{◌≡◌, true, sym, arith, rules}
+use Rattle.page_redo.specs.PageTuples.{is_graph}
+use Rattle.page_redo.proofs.MetaChanges.{hint_of_graph}
+use Rattle.page_redo.proofs.in_place.hint.Goals as goal
+
+pub put_meta-requires-clause-meta : goal.put_meta-requires-clause-meta
+put_meta-requires-clause-meta c =
+    let m = c.in_ok-meta.meta in
+    let s = (c.in_ok-meta.ensures.spelled m (sym c.in_ok-meta.ensures.told)).0 in
+    let graph : is_graph m.params.kind ≡ true = search rules in
+    record { format_low = s.format_low; format_high = s.format_high; params = s.params; entry = s.entry; level = s.level; hint = hint_of_graph m.params.kind c.args.hint graph (omega arith) (omega arith) }

@@ -1,5 +1,0 @@
-use Rattle.page_redo.proofs.ItemLaws.{centre_there}
-use Rattle.page_redo.proofs.lists.aim.Goals as goal
-
-pub put_aim-requires : goal.put_aim-requires
-put_aim-requires c = centre_there c.args.params.now c.args.page.now c.list_offset-off.result _ c.in-Some.ensures.told c.in-Some.ensures.spelled

@@ -1,7 +1,0 @@
-use Rattle.vec_tuples.specs.Spelling.{links_with}
-use Rattle.std.proofs.Common.{false}
-use Rattle.vec_tuples.proofs.SlotPlaces.{length-links_bytes}
-use Rattle.page_redo.proofs.put.links_long.Goals as goal
-
-pub returns-clause-spelled : goal.returns-clause-spelled
-returns-clause-spelled c = λ version. length-links_bytes (links_with false version c.args.lists.now)
