@@ -1,5 +1,5 @@
 -- A block of the page area, and a run of calls that read it.
-use Rattle.std.proofs.Common.{◌≡◌, ℕ, ◌+◌, ◌*◌, ◌<◌, List, length, take, drop, sym, ap, ◌∙◌, subst, arith, length-drop}
+use Rattle.std.proofs.Common.{◌≡◌, ℕ, ◌+◌, ◌*◌, ◌<◌, List, length, drop, ap, subst, arith, length-drop}
 use Rattle.std.proofs.lemmas.List.{length-take}
 use Rattle.page_bytes.specs.Content.{Content, IsPage}
 use Rattle.page_bytes.specs.Decoding.{Spells}

@@ -1,14 +1,13 @@
 -- Pages that are written one after the other: what holds before the pairs that are left.
-use Rattle.std.proofs.Common.{◌≡◌, ◌≢◌, ◌⊎◌, ℕ, zero, suc, ◌+◌, ◌-◌, ◌*◌, ◌<◌, ◌≤◌, List, [], ◌∷◌, length, take, drop, slice_get, Some, ◌++◌, refl, sym, ap, ◌∙◌, subst, ⊎_elim, inl, inr, arith, length-append, length-drop}
+use Rattle.std.proofs.Common.{◌≡◌, ◌⊎◌, ℕ, zero, suc, ◌+◌, ◌*◌, ◌≤◌, List, ◌∷◌, length, take, drop, slice_get, Some, ◌++◌, refl, sym, ap, ◌∙◌, inl, inr, arith, length-append, length-drop}
 use Rattle.std.proofs.lemmas.List.{length-take}
 use Rattle.page_bytes.specs.Content.{Content}
 use Rattle.page_bytes.specs.Spelling.{spelling}
-use Rattle.page_file.specs.Area.{IsAmong, IsBelow, IsRising, LeavesNoGap, with_pages, bytes_of, IsTornIn, IsTornImage, IsWritten}
+use Rattle.page_file.specs.Area.{IsAmong, IsRising, LeavesNoGap, with_pages, bytes_of, IsTornImage, IsWritten}
 use Rattle.page_file.proofs.Torn.{torn_block, torn_nowhere, torn_again}
 use Rattle.vec_outside.specs.Disk as outside
 use Rattle.vec_outside.specs.Disk.{Disk, Image, IsImage, Elapses, LeavesOnly, spliced}
 use Rattle.vec_outside.proofs.Moments.{started, goes_on}
-use Rattle.vec_outside.specs.declared.disks.Area.{Area}
 use Rattle.vec_outside.specs.declared.disks.Area.TheVariants.{Pages}
 
 pub record IsGoing (told : Type 0) (pages : List Content) (pairs rest : List (ℕ × ℕ)) (old now : Disk) : Type 0 where
@@ -50,9 +49,9 @@ written_more : (pairs : List (ℕ × ℕ)) (block : ℕ) (old mid new : Disk) �
 written_more pairs block old mid new among w one = record {
   seen = torn_again pairs _ _ _ w.seen (torn_block pairs block _ _ among one.seen);
   leaves = λ bytes left.
-    let mine = one.leaves bytes left in
-    let was = w.leaves mine.0 mine.1 in
-    (was.0, was.1, torn_again pairs was.0 mine.0 bytes was.2 (torn_block pairs block mine.0 bytes among mine.2));
+      let mine = one.leaves bytes left in
+      let was = w.leaves mine.0 mine.1 in
+      (was.0, was.1, torn_again pairs was.0 mine.0 bytes was.2 (torn_block pairs block mine.0 bytes among mine.2));
   other_seen = λ other ne. one.other_seen other ne ∙ w.other_seen other ne;
   other_leaves = λ other bytes ne left. w.other_leaves other bytes ne (one.other_leaves other bytes ne left);
 }
@@ -75,6 +74,7 @@ next_within rest pair len rising no_gap = within pair.0 refl
     here block is (inl (inl same)) = omega (arith, is, same)
     here block is (inl (inr later)) = omega (arith, is, rising.0 block later)
     here block is (inr long) = omega (arith, is, long)
+
     within : (block : ℕ) → block ≡ pair.0 → 8192 * pair.0 ≤ len
     within zero is = omega (arith, is)
     within (suc block) is = here block (omega (arith, is)) (no_gap block (inl (omega (arith, is))))
@@ -102,11 +102,11 @@ goes_further told pages pairs rest pair page old mid new going is size one time 
   among = λ block is. going.among block (inr is);
   rising = going.rising.1;
   no_gap = λ t.
-    let longer = length-spliced (mid.seen Pages) (8192 * pair.0) (spelling page) (next_within rest pair _ going.rising (going.no_gap t)) in
-    let same = ap length (bytes t) in
-    no_gap_on rest pair (length (mid.seen Pages)) (length (new.seen Pages)) (going.no_gap t) (omega (arith, longer.0, same)) (omega (arith, longer.1, same, size));
+      let longer = length-spliced (mid.seen Pages) (8192 * pair.0) (spelling page) (next_within rest pair _ going.rising (going.no_gap t)) in
+      let same = ap length (bytes t) in
+      no_gap_on rest pair (length (mid.seen Pages)) (length (new.seen Pages)) (going.no_gap t) (omega (arith, longer.0, same)) (omega (arith, longer.1, same, size));
   bytes = λ t.
-    ap (with_pages pages rest) (bytes t ∙ ap (λ page. spliced (mid.seen Pages) (8192 * pair.0) (bytes_of page)) (sym is)) ∙ going.bytes t;
+      ap (with_pages pages rest) (bytes t ∙ ap (λ page. spliced (mid.seen Pages) (8192 * pair.0) (bytes_of page)) (sym is)) ∙ going.bytes t;
   written = written_on told pages pairs rest pair old mid new going one;
   moments = moments_on told pages pairs rest pair old mid new going one time;
 }

@@ -12,8 +12,5 @@ pub use fault::PageFileFault;
 pub use reading::read_one;
 pub use writing::write_pages;
 
-
-
-
 #[cfg(test)]
 mod tests;

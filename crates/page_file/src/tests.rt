@@ -66,10 +66,16 @@ fn no_page(rt: HostRuntime) -> Result<(), Outage> {
     let mut disks = MemDisks::empty(rt.alloc())?;
     assert_eq!(rt; write_two(&mut disks, &[numbered(5), numbered(6)]), Ok(()));
     // Past the end; and where the line pointers end at no multiple of 4.
-    assert_eq!(rt; number_left(&disks, 2), Err(PageFileFault::NotPage { at: 16_384 }));
+    assert_eq!(rt;
+        number_left(&disks, 2),
+        Err(PageFileFault::NotPage { at: 16_384 })
+    );
     damage(&mut disks, 8_192 + 12, 25)?;
     assert_eq!(rt; number_left(&disks, 0), Ok(5));
-    assert_eq!(rt; number_left(&disks, 1), Err(PageFileFault::NotPage { at: 8_192 }));
+    assert_eq!(rt;
+        number_left(&disks, 1),
+        Err(PageFileFault::NotPage { at: 8_192 })
+    );
     Ok(())
 }
 
@@ -79,13 +85,26 @@ fn each_call_fails(rt: HostRuntime) -> Result<(), AllocError> {
     for n in 1..4u64 {
         let mut disks = failing(rt.alloc(), n)?;
         let pages = [numbered(5), numbered(6)];
-        assert_eq!(rt; write_two(&mut disks, &pages), Err(PageFileFault::Disk { count: 1 }));
-        assert!(rt; matches!(number_left(&disks, 1), Err(PageFileFault::NotPage { at: 8_192 })));
+        assert_eq!(rt;
+            write_two(&mut disks, &pages),
+            Err(PageFileFault::Disk { count: 1 })
+        );
+        assert!(rt;
+            matches!(
+                number_left(&disks, 1),
+                Err(PageFileFault::NotPage { at: 8_192 })
+            )
+        );
         assert_eq!(rt; write_two(&mut disks, &pages), Ok(()));
         assert_eq!(rt; number_left(&disks, 1), Ok(6));
     }
     let mut disks = failing(rt.alloc(), 1)?;
-    assert!(rt; matches!(read_one(&mut disks, 0), Err(PageFileFault::Disk { count: 1 })));
+    assert!(rt;
+        matches!(
+            read_one(&mut disks, 0),
+            Err(PageFileFault::Disk { count: 1 })
+        )
+    );
     Ok(())
 }
 

@@ -46,11 +46,7 @@ pub fn write_pages<D: Disks>(
     }
 }
 
-fn write_synced<D: Disks>(
-    disks: &mut D,
-    pages: &[Page],
-    which: &[(u32, u32)],
-) -> Result<(), Outage>
+fn write_synced<D: Disks>(disks: &mut D, pages: &[Page], which: &[(u32, u32)]) -> Result<(), Outage>
     requires rising { IsRising which.now }
     requires places { All (λ pair. pair.1 < length pages.now) which.now }
     requires no_gap { D.told → LeavesNoGap which.now (length ((D.disk disks.old).seen Pages)) }
@@ -65,11 +61,7 @@ fn write_synced<D: Disks>(
     disks.sync(Area::Pages)
 }
 
-fn write_each<D: Disks>(
-    disks: &mut D,
-    pages: &[Page],
-    which: &[(u32, u32)],
-) -> Result<(), Outage>
+fn write_each<D: Disks>(disks: &mut D, pages: &[Page], which: &[(u32, u32)]) -> Result<(), Outage>
     requires rising { IsRising which.now }
     requires places { All (λ pair. pair.1 < length pages.now) which.now }
     requires no_gap { D.told → LeavesNoGap which.now (length ((D.disk disks.old).seen Pages)) }
@@ -94,5 +86,9 @@ fn write_page<D: Disks>(disks: &mut D, block: u32, page: &Page) -> Result<(), Ou
     ensures time { Elapses (D.disk disks.old) (D.disk disks.new) }
     ensures cause { HasCause (D.count disks.old) (D.count disks.new) result }
 {
-    disks.write_at(Area::Pages, PAGE_SIZE as u64 * u64::from(block), page.bytes())
+    disks.write_at(
+        Area::Pages,
+        PAGE_SIZE as u64 * u64::from(block),
+        page.bytes(),
+    )
 }

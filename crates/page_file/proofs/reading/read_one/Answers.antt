@@ -1,4 +1,4 @@
-use Rattle.std.proofs.Common.{◌≡◌, ◌*◌, arith}
+use Rattle.std.proofs.Common.{arith}
 use Rattle.page_file.proofs.Blocks.{none_past_end, read_twice}
 use Rattle.page_file.proofs.reading.read_one.Goals as goal
 

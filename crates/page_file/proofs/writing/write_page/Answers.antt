@@ -1,5 +1,4 @@
-use Rattle.std.proofs.Common.{◌≡◌, ◌*◌, ◌∙◌, length, sym, ap}
-use Rattle.page_bytes.specs.Spelling.{spelling}
+use Rattle.std.proofs.Common.{◌*◌, ◌∙◌, length, ap}
 use Rattle.page_file.proofs.Blocks.{length-page, same_range}
 use Rattle.page_file.proofs.writing.write_page.Goals as goal
 use Rattle.vec_outside.specs.declared.disks.Area.TheVariants.{Pages}
