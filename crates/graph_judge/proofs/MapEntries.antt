@@ -12,30 +12,8 @@ use Rattle.vec_names.specs.Order.{tid_cmp, tid_cmp_total, tid_cmp_exact}
 use Rattle.vec_graph.specs.declared.node.Node.{Node}
 use Rattle.vec_graph.specs.declared.graph.Graph.{Graph}
 use Rattle.vec_graph.specs.Graph.{node_at, IsLive, IsLiveAt, IsDoomed, IsDoomedAt}
+use Rattle.vec_graph.proofs.Copies.{equal, not_equal, left, right, missing}
 use Rattle.graph_judge.specs.Knowable.{EachEntry}
-
-equal : (r : Ordering) → is_eq r ≡ true → r ≡ Equal
-equal Less e = cc
-equal Equal e = refl
-equal Greater e = cc
-
-not_equal : (r : Ordering) → T (is_lt r) → is_eq r ≡ false
-not_equal Less h = refl
-not_equal Equal h = absurd h
-not_equal Greater h = absurd h
-
-left : (a b : _) → T (a && b) → T a
-left true b p = tt
-left false b p = absurd p
-
-right : (a b : _) → T (a && b) → T b
-right true b p = p
-right false b p = absurd p
-
-missing : (k : Tid) (es : List (Tid × Node)) → T (below_all tid_cmp k es) → find tid_cmp k es ≡ None
-missing k [] h = refl
-missing k (e ∷ es) h =
-    ap (λ b. cond b (Some e.1) (find tid_cmp k es)) (not_equal (tid_cmp k e.0) (left _ _ h)) ∙ missing k es (right _ _ h)
 
 at_each : (P : Tid → Node → Type 0) (es : List (Tid × Node)) → EachEntry P es → (at : Tid) (n : Node) → find tid_cmp at es ≡ Some n → P at n
 at_each P [] each at n found = absurd (none-some n found)

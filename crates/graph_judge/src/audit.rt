@@ -7,13 +7,14 @@ ghost use Rattle.vec_graph.specs.Rules.{IsEventAllowed};
 ghost use Rattle.vec_graph.specs.Legal.{IsAllowed, IsLegal};
 ghost use Rattle.vec_history.specs.Judging.{IsFaultOf};
 
-use crate::linking_rules::{last_of, may_enter, may_link, may_put, may_relist};
+use crate::course::Course;
+use crate::linking_rules::{may_enter, may_link, may_put, may_relist};
 use crate::node_rules::{may_drop, may_hint, may_join, may_mark};
 use crate::vacuum_rules::{may_begin, may_cancel, may_end};
 use std::alloc::{AllocError, Global};
 use vec_graph::{Graph, Place};
-use vec_history::{Act, Event};
-use vec_history::{AuditFault, may_fault, may_give_back, may_settle, may_take};
+use vec_history::{Act, AuditFault, Event, may_fault, may_give_back, may_settle, may_take};
+use vec_names::Tid;
 
 /// Judges a history that begins at a graph: Illegal at the first act that the rules do not allow after those before it.
 /// It keeps the graph after each act, so it takes memory for as many graphs as there are acts.
@@ -24,7 +25,12 @@ pub fn audit_hnsw(alloc: Global, base: &Graph, acts: &[Act]) -> Result<(), Audit
     let mut states = first_states(base, alloc)?;
     for k in 0..acts.len() {
         let act = &acts[k];
-        if !is_allowed(base, &acts[..k], states.as_slice(), act) {
+        let course = Course {
+            base,
+            acts: &acts[..k],
+            states: states.as_slice(),
+        };
+        if !is_allowed(&course, act) {
             return Err(AuditFault::Illegal { at: k as u64 });
         }
         add_state(base, &acts[..k], &mut states, act, alloc)?;
@@ -32,18 +38,27 @@ pub fn audit_hnsw(alloc: Global, base: &Graph, acts: &[Act]) -> Result<(), Audit
     Ok(())
 }
 
-fn is_allowed(base: &Graph, acts: &[Act], states: &[Graph], act: &Act) -> bool
-    requires { AreStates base.now acts.now states.now }
-    ensures { IsTrue result ↔ IsAllowed base.now acts.now act.now }
+fn is_allowed(course: &Course<'_>, act: &Act) -> bool
+    ensures { IsTrue result ↔ IsAllowed course.now.base.now course.now.acts.now act.now }
 {
-    is_event_allowed(base, acts, states, act.desk, &act.event)
+    is_event_allowed(course, act.desk, &act.event)
 }
 
-fn is_event_allowed(base: &Graph, acts: &[Act], states: &[Graph], desk: u32, event: &Event) -> bool
-    requires { AreStates base.now acts.now states.now }
-    ensures { IsTrue result ↔ IsEventAllowed base.now acts.now desk event.now }
+fn place(at: Tid, list_at: Tid, version: u8) -> Place
+    ensures at { result.at ≡ at }
+    ensures list_at { result.list_at ≡ list_at }
+    ensures version { result.version ≡ version }
 {
-    let graph = last_of(base, acts, states);
+    Place {
+        at,
+        list_at,
+        version,
+    }
+}
+
+fn is_event_allowed(course: &Course<'_>, desk: u32, event: &Event) -> bool
+    ensures { IsTrue result ↔ IsEventAllowed course.now.base.now course.now.acts.now desk event.now }
+{
     match event {
         Event::Put {
             at,
@@ -54,67 +69,56 @@ fn is_event_allowed(base: &Graph, acts: &[Act], states: &[Graph], desk: u32, eve
             lists,
             ..
         } => {
-            let place = Place {
-                at: *at,
-                list_at: *list_at,
-                version: *version,
-            };
-            may_put(base, acts, states, desk, place, *level, bits, lists)
+            may_put(
+                course,
+                desk,
+                place(*at, *list_at, *version),
+                *level,
+                bits,
+                lists,
+            )
         }
-        Event::Join { at, version, .. } => may_join(base, acts, graph, desk, *at, *version),
+        Event::Join { at, version, .. } => may_join(course, desk, *at, *version),
         Event::Link {
             at,
             list_at,
             version,
             slot,
             to,
-        } => {
-            may_link(
-                base, acts, states, desk, *at, *list_at, *version, *slot, *to,
-            )
-        }
+        } => { may_link(course, desk, place(*at, *list_at, *version), *slot, *to) }
         Event::Relist {
             at,
             list_at,
             version,
             lists,
-        } => { may_relist(base, acts, states, desk, *at, *list_at, *version, lists) }
-        Event::Drop { at, version, gone } => may_drop(
-            base, acts, graph, desk, *at, *version, *gone,
-        ),
+        } => { may_relist(course, desk, place(*at, *list_at, *version), lists) }
+        Event::Drop { at, version, gone } => may_drop(course, desk, *at, *version, *gone),
         Event::Mark {
             at,
             list_at,
             version,
-        } => may_mark(base, acts, graph, desk, *at, *list_at, *version),
-        Event::Entry { to, level } => may_enter(base, acts, states, desk, *to, *level),
-        Event::Hint { block } => may_hint(base, acts, graph, desk, *block),
+        } => may_mark(course, desk, place(*at, *list_at, *version)),
+        Event::Entry { to, level } => may_enter(course, desk, *to, *level),
+        Event::Hint { block } => may_hint(course, desk, *block),
         Event::IvfAdd { .. }
         | Event::IvfGrow { .. }
         | Event::IvfDrop { .. }
         | Event::IvfHint { .. } => false,
-        Event::Gate { gate, hold } => may_take(acts, desk, *gate, *hold),
-        Event::Ungate { gate } => may_give_back(acts, desk, *gate),
-        Event::Phase { stage } => may_begin(base, acts, states, desk, *stage),
-        Event::VacuumEnd => may_end(base, acts, states, desk),
-        Event::Cancel { stage } => may_cancel(base, acts, states, desk, *stage),
-        Event::Settled { upto } => may_settle(acts, *upto),
-        Event::DiskFaulted { count } => may_fault(acts, *count),
+        Event::Gate { gate, hold } => may_take(course.acts, desk, *gate, *hold),
+        Event::Ungate { gate } => may_give_back(course.acts, desk, *gate),
+        Event::Phase { stage } => may_begin(course, desk, *stage),
+        Event::VacuumEnd => may_end(course, desk),
+        Event::Cancel { stage } => may_cancel(course, desk, *stage),
+        Event::Settled { upto } => may_settle(course.acts, *upto),
+        Event::DiskFaulted { count } => may_fault(course.acts, *count),
     }
 }
 
 // The graph after one more act, in memory of its own.
-fn next_state(
-    base: &Graph,
-    acts: &[Act],
-    states: &[Graph],
-    act: &Act,
-    alloc: Global,
-) -> Result<Graph, AllocError>
-    requires { AreStates base.now acts.now states.now }
-    ensures { IfOk result (λ next. next ≡ effect 255 act.now.event (after base.now acts.now)) }
+fn next_state(course: &Course<'_>, act: &Act, alloc: Global) -> Result<Graph, AllocError>
+    ensures { IfOk result (λ next. next ≡ effect 255 act.now.event (after course.now.base.now course.now.acts.now)) }
 {
-    let mut next = states[acts.len()].try_clone(alloc)?;
+    let mut next = course.last().try_clone(alloc)?;
     next.apply(255, &act.event, alloc)?;
     Ok(next)
 }
@@ -140,7 +144,12 @@ fn add_state(
     requires { AreStates base.now acts.now states.old.items }
     ensures { OnOk result (AreStates base.now (acts.now ++ act.now ∷ []) states.new.items) }
 {
-    let next = next_state(base, acts, states.as_slice(), act, alloc)?;
+    let course = Course {
+        base,
+        acts,
+        states: states.as_slice(),
+    };
+    let next = next_state(&course, act, alloc)?;
     states.push(next)?;
     Ok(())
 }

@@ -6,14 +6,13 @@ ghost use Rattle.vec_names.specs.declared.tid.Tid.{Tid as Tids};
 ghost use Rattle.vec_history.specs.declared.stage.Stage.TheVariants.{Repair};
 ghost use Rattle.vec_history.specs.Phases.{PhaseSince, IsRemoved};
 ghost use Rattle.vec_graph.specs.Graph.{IsLiveAt, IsDoomedAt};
-ghost use Rattle.graph_judge.specs.Course.{AreStates};
 ghost use Rattle.vec_graph.specs.Cleaning.{IsCleanAt, IsEntryClean, WereCleaned, IsRepaired};
 ghost use Rattle.graph_judge.specs.Knowable.{IsSomewhere, EachEntry, AreMembersClean, NamesDoomed, WereLayersClean, WasNodeClean};
 
+use crate::course::Course;
 use crate::knowing::layer_of_slot;
 use vec_graph::{Graph, Node, doomed_at, is_doomed, is_live};
-use vec_history::{Act, Gate, Stage};
-use vec_history::{last_barrier, phase, removal_end};
+use vec_history::{Gate, Stage, last_barrier, phase, removal_end};
 use vec_names::Tid;
 
 /// Whether no node is doomed.
@@ -134,61 +133,48 @@ fn were_nodes_clean(first: &Graph, states: &[Graph]) -> bool
 }
 
 /// Whether, between these positions, each layer of each node that was live at the first was clean once, and
-/// so was the entry point. `states` are the graphs that the acts go through.
-fn were_cleaned(base: &Graph, acts: &[Act], states: &[Graph], low: usize, high: usize) -> bool
-    requires course { AreStates base.now acts.now states.now }
+/// so was the entry point.
+fn were_cleaned(course: &Course<'_>, low: usize, high: usize) -> bool
     requires in_order { low ≤ high }
-    requires within { high ≤ length acts.now }
-    ensures { IsTrue result ↔ WereCleaned base.now acts.now low high }
+    requires within { high ≤ length course.now.acts.now }
+    ensures { IsTrue result ↔ WereCleaned course.now.base.now course.now.acts.now low high }
 {
+    let states = course.states;
     let part = &states[low..high + 1];
     were_nodes_clean(&states[low], part) && some_entry_clean(part)
 }
 
-/// Whether repairing is done, so that the desk may begin to mark. `states` are the graphs that the acts go
-/// through.
-pub(crate) fn is_repaired(base: &Graph, acts: &[Act], states: &[Graph], desk: u32) -> bool
-    requires { AreStates base.now acts.now states.now }
-    ensures { IsTrue result ↔ IsRepaired base.now acts.now desk }
+/// Whether repairing is done, so that the desk may begin to mark.
+pub(crate) fn is_repaired(course: &Course<'_>, desk: u32) -> bool
+    ensures { IsTrue result ↔ IsRepaired course.now.base.now course.now.acts.now desk }
 {
-    match phase(acts) {
+    match phase(course.acts) {
         Some((made_by, stage, begun)) => {
-            made_by == desk
-                && stage == Stage::Repair
-                && is_repaired_since(base, acts, states, desk, begun)
+            made_by == desk && stage == Stage::Repair && is_repaired_since(course, desk, begun)
         }
         None => false,
     }
 }
 
 /// The same where the phase is known: the desk's act of number `begun` began it.
-fn is_repaired_since(base: &Graph, acts: &[Act], states: &[Graph], desk: u32, begun: usize) -> bool
-    requires course { AreStates base.now acts.now states.now }
-    requires phase { PhaseSince acts.now desk Repair begun }
-    ensures { IsTrue result ↔ IsRepaired base.now acts.now desk }
+fn is_repaired_since(course: &Course<'_>, desk: u32, begun: usize) -> bool
+    requires { PhaseSince course.now.acts.now desk Repair begun }
+    ensures { IsTrue result ↔ IsRepaired course.now.base.now course.now.acts.now desk }
 {
-    match removal_end(&acts[..begun], desk) {
-        Some(first) => is_cleaned_since(base, acts, states, desk, begun, first),
+    match removal_end(&course.acts[..begun], desk) {
+        Some(first) => is_cleaned_since(course, desk, begun, first),
         None => false,
     }
 }
 
 /// The same where also the position is known right after the barrier that ended removing.
-fn is_cleaned_since(
-    base: &Graph,
-    acts: &[Act],
-    states: &[Graph],
-    desk: u32,
-    begun: usize,
-    first: usize,
-) -> bool
-    requires course { AreStates base.now acts.now states.now }
-    requires phase { PhaseSince acts.now desk Repair begun }
-    requires removed { IsRemoved (take begun acts.now) desk first }
-    ensures { IsTrue result ↔ IsRepaired base.now acts.now desk }
+fn is_cleaned_since(course: &Course<'_>, desk: u32, begun: usize, first: usize) -> bool
+    requires phase { PhaseSince course.now.acts.now desk Repair begun }
+    requires removed { IsRemoved (take begun course.now.acts.now) desk first }
+    ensures { IsTrue result ↔ IsRepaired course.now.base.now course.now.acts.now desk }
 {
-    match last_barrier(acts, desk, Gate::Scan, begun) {
-        Some(barrier) => were_cleaned(base, acts, states, first, barrier),
+    match last_barrier(course.acts, desk, Gate::Scan, begun) {
+        Some(barrier) => were_cleaned(course, first, barrier),
         None => false,
     }
 }

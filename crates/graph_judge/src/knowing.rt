@@ -3,31 +3,21 @@
 ghost use Rattle.std.specs.Prelude.{◌≡◌, ◌↔◌, IsTrue};
 ghost use Rattle.vec_graph.specs.Graph.{IsLiveAt, slot_layer};
 ghost use Rattle.vec_graph.specs.Effect.{after};
-ghost use Rattle.graph_judge.specs.Course.{AreStates};
 ghost use Rattle.vec_graph.specs.Knowing.{Knows};
 ghost use Rattle.graph_judge.specs.Knowable.{KnowsSlot, IsSomewhere};
 ghost use Rattle.vec_graph.specs.Rules.{KnowsMembers};
 
+use crate::course::Course;
 use vec_graph::{Graph, live_at};
-use vec_history::{Act, Gate};
-use vec_history::hold_of;
+use vec_history::{Gate, hold_of};
 use vec_names::{Listed, Tid};
 
-/// Whether the desk knows the node at the place up to the layer, after these acts. `states` are the graphs
-/// that the acts go through.
-pub(crate) fn knows(
-    base: &Graph,
-    acts: &[Act],
-    states: &[Graph],
-    desk: u32,
-    at: Tid,
-    layer: u32,
-) -> bool
-    requires { AreStates base.now acts.now states.now }
-    ensures { IsTrue result ↔ Knows base.now acts.now desk at layer }
+/// Whether the desk knows the node at the place up to the layer, after these acts.
+pub(crate) fn knows(course: &Course<'_>, desk: u32, at: Tid, layer: u32) -> bool
+    ensures { IsTrue result ↔ Knows course.now.base.now course.now.acts.now desk at layer }
 {
-    match hold_of(acts, desk, Gate::Update) {
-        Some((_, since)) => some_live(&states[since + 1..], at, layer),
+    match hold_of(course.acts, desk, Gate::Update) {
+        Some((_, since)) => some_live(&course.states[since + 1..], at, layer),
         None => false,
     }
 }
@@ -58,41 +48,29 @@ pub(crate) fn layer_of_slot(m: u16, level: u8, slot: usize) -> u32
 /// Whether the desk knows each member of each layer that these slots of a node of this level name, up to
 /// that layer.
 pub(crate) fn knows_members(
-    base: &Graph,
-    acts: &[Act],
-    states: &[Graph],
+    course: &Course<'_>,
     desk: u32,
     level: u8,
     lists: &Listed<Option<Tid>>,
 ) -> bool
-    requires { AreStates base.now acts.now states.now }
-    ensures { IsTrue result ↔ KnowsMembers base.now acts.now desk (after base.now acts.now).params.m level lists.now }
+    ensures { IsTrue result ↔ KnowsMembers course.now.base.now course.now.acts.now desk (after course.now.base.now course.now.acts.now).params.m level lists.now }
 {
     let slots = lists.as_slice();
     for slot in 0..slots.len() {
-        if !knows_slot(base, acts, states, desk, level, slot, slots[slot]) {
+        if !knows_slot(course, desk, level, slot, slots[slot]) {
             return false;
         }
     }
     true
 }
 
-fn knows_slot(
-    base: &Graph,
-    acts: &[Act],
-    states: &[Graph],
-    desk: u32,
-    level: u8,
-    slot: usize,
-    named: Option<Tid>,
-) -> bool
-    requires { AreStates base.now acts.now states.now }
-    ensures { IsTrue result ↔ KnowsSlot base.now acts.now desk level slot named }
+fn knows_slot(course: &Course<'_>, desk: u32, level: u8, slot: usize, named: Option<Tid>) -> bool
+    ensures { IsTrue result ↔ KnowsSlot course.now.base.now course.now.acts.now desk level slot named }
 {
     match named {
         Some(to) => {
-            let layer = layer_of_slot(states[acts.len()].params.m, level, slot);
-            knows(base, acts, states, desk, to, layer)
+            let layer = layer_of_slot(course.last().params.m, level, slot);
+            knows(course, desk, to, layer)
         }
         None => true,
     }

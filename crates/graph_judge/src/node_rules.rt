@@ -11,11 +11,11 @@ ghost use Rattle.vec_graph.specs.Effect.{after};
 ghost use Rattle.graph_judge.specs.Deciding.{IsFitting};
 ghost use Rattle.vec_graph.specs.Rules.{IsThere, IsPlaced, IsPutAllowed, IsJoinAllowed, IsLinkAllowed, IsRelistAllowed, IsDropAllowed, IsMarkAllowed, IsEntryAtAllowed, IsNoEntryAllowed, IsEntryAllowed, IsHintAllowed};
 
-use index_sizes::{MOST_BLOCKS, MOST_IDS, slots_of_level};
+use crate::course::Course;
 use bit_code::Bits;
+use index_sizes::{MOST_BLOCKS, MOST_IDS, slots_of_level};
 use vec_graph::{Graph, Node, Place, is_doomed};
-use vec_history::{Act, Gate, Stage};
-use vec_history::{holds, is_in_phase};
+use vec_history::{Gate, Stage, holds, is_in_phase};
 use vec_names::{Listed, Tid, most_level};
 
 // The node at a place, if it has this version and is not deleted.
@@ -58,21 +58,13 @@ fn is_in_file(blocks: u32, more: u32) -> bool
     u64::from(blocks) + u64::from(more) <= u64::from(MOST_BLOCKS)
 }
 
-pub(crate) fn may_join(
-    base: &Graph,
-    acts: &[Act],
-    graph: &Graph,
-    desk: u32,
-    at: Tid,
-    version: u8,
-) -> bool
-    requires { graph.now ≡ after base.now acts.now }
-    ensures { IsTrue result ↔ IsJoinAllowed base.now acts.now desk at version }
+pub(crate) fn may_join(course: &Course<'_>, desk: u32, at: Tid, version: u8) -> bool
+    ensures { IsTrue result ↔ IsJoinAllowed course.now.base.now course.now.acts.now desk at version }
 {
-    if !holds(acts, desk, Gate::Update) {
+    if !holds(course.acts, desk, Gate::Update) {
         return false;
     }
-    match there(graph, at, version) {
+    match there(course.last(), at, version) {
         Some(node) => has_room_for_id(node),
         None => false,
     }
@@ -86,22 +78,13 @@ fn has_room_for_id(node: &Node) -> bool
     count >= 1 && count < MOST_IDS
 }
 
-pub(crate) fn may_drop(
-    base: &Graph,
-    acts: &[Act],
-    graph: &Graph,
-    desk: u32,
-    at: Tid,
-    version: u8,
-    gone: u16,
-) -> bool
-    requires { graph.now ≡ after base.now acts.now }
-    ensures { IsTrue result ↔ IsDropAllowed base.now acts.now desk at version gone }
+pub(crate) fn may_drop(course: &Course<'_>, desk: u32, at: Tid, version: u8, gone: u16) -> bool
+    ensures { IsTrue result ↔ IsDropAllowed course.now.base.now course.now.acts.now desk at version gone }
 {
-    if !is_in_phase(acts, desk, Stage::Remove) {
+    if !is_in_phase(course.acts, desk, Stage::Remove) {
         return false;
     }
-    match there(graph, at, version) {
+    match there(course.last(), at, version) {
         Some(node) => names_some_of(gone, node.ids.len()),
         None => false,
     }
@@ -114,23 +97,14 @@ fn names_some_of(mask: u16, count: usize) -> bool
     mask != 0 && (count >= 16 || mask >> count == 0)
 }
 
-pub(crate) fn may_mark(
-    base: &Graph,
-    acts: &[Act],
-    graph: &Graph,
-    desk: u32,
-    at: Tid,
-    list_at: Tid,
-    version: u8,
-) -> bool
-    requires { graph.now ≡ after base.now acts.now }
-    ensures { IsTrue result ↔ IsMarkAllowed base.now acts.now desk at list_at version }
+pub(crate) fn may_mark(course: &Course<'_>, desk: u32, place: Place) -> bool
+    ensures { IsTrue result ↔ IsMarkAllowed course.now.base.now course.now.acts.now desk place.at place.list_at place.version }
 {
-    if !is_in_phase(acts, desk, Stage::Mark) {
+    if !is_in_phase(course.acts, desk, Stage::Mark) {
         return false;
     }
-    match there(graph, at, version) {
-        Some(node) => are_same(node.list_at, list_at) && is_doomed(node),
+    match there(course.last(), place.at, place.version) {
+        Some(node) => are_same(node.list_at, place.list_at) && is_doomed(node),
         None => false,
     }
 }
@@ -142,14 +116,13 @@ pub(crate) fn are_same(one: Tid, other: Tid) -> bool
     one == other
 }
 
-pub(crate) fn may_hint(base: &Graph, acts: &[Act], graph: &Graph, desk: u32, block: u32) -> bool
-    requires { graph.now ≡ after base.now acts.now }
-    ensures { IsTrue result ↔ IsHintAllowed base.now acts.now desk block }
+pub(crate) fn may_hint(course: &Course<'_>, desk: u32, block: u32) -> bool
+    ensures { IsTrue result ↔ IsHintAllowed course.now.base.now course.now.acts.now desk block }
 {
-    if !holds(acts, desk, Gate::Update) && !holds(acts, desk, Gate::Vacuum) {
+    if !holds(course.acts, desk, Gate::Update) && !holds(course.acts, desk, Gate::Vacuum) {
         return false;
     }
-    block >= 1 && block <= graph.blocks
+    block >= 1 && block <= course.last().blocks
 }
 
 // Whether a new node of this level fits the graph at this place.

@@ -9,8 +9,7 @@ use vec_history::{Act, Event, Gate, Hold, Stage};
 use vec_names::{HeapId, Kind, Listed, Mapped, Ops, Params, Tid};
 
 /// An index that has no node, whose values have 4 places, with m 2.
-fn empty(alloc: Global) -> Graph
-{
+fn empty(alloc: Global) -> Graph {
     Graph {
         params: Params {
             kind: Kind::Hnsw,

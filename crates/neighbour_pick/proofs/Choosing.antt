@@ -1,5 +1,6 @@
 -- Which slot an entrant gets.
 use Rattle.std.proofs.Common.{◌≡◌, ℕ, zero, suc, ◌+◌, ◌<◌, ◌≤◌, Bool, true, false, cond, not, List, [], ◌∷◌, ◌++◌, map, length, slice_get, Option, Some, None, is_none, nat_lt, refl, sym, ap, ◌∙◌, subst, arith}
+use Rattle.std.specs.Option.{option_or}
 use Rattle.std.specs.List.{list_any, position, position_or_len}
 use Rattle.std.proofs.lemmas.Option.{same_Some, none-some}
 use Rattle.std.proofs.lemmas.Bool.{ltb-true, lt-ltb}
@@ -9,7 +10,7 @@ use Rattle.list_values.specs.Ranking.{placed, ranked}
 use Rattle.neighbour_pick.specs.declared.found.SlotSeen.{SlotSeen}
 use Rattle.neighbour_pick.specs.Order.{Candidate, is_nearer}
 use Rattle.neighbour_pick.specs.Selection.{far_marks}
-use Rattle.neighbour_pick.specs.Slots.{Rival, member_in, members_from, rivals, not_far, last_of, or_else, left_out, slot_left, is_named, slot_of}
+use Rattle.neighbour_pick.specs.Slots.{Rival, member_in, members_from, rivals, not_far, last_of, left_out, slot_left, is_named, slot_of}
 
 -- ---- a property of all
 
@@ -73,7 +74,7 @@ rivals_below slots entrant =
     ranked_all (HasSlotBelow (length slots)) (λ a b. is_nearer a.is b.is) _
     (both_all (HasSlotBelow (length slots)) (members_from 0 slots) _ (members_below 0 (length slots) slots (omega arith)) (λ k e. absurd (none-some k e), tt))
 
-either_all : (P : Rival → Type 0) (a b : Option Rival) (r : Rival) → ((x : Rival) → a ≡ Some x → P x) → ((x : Rival) → b ≡ Some x → P x) → or_else a b ≡ Some r → P r
+either_all : (P : Rival → Type 0) (a b : Option Rival) (r : Rival) → ((x : Rival) → a ≡ Some x → P x) → ((x : Rival) → b ≡ Some x → P x) → option_or a b ≡ Some r → P r
 either_all P None b r p q e = q r e
 either_all P (Some x) b r p q e = p r e
 
@@ -101,7 +102,7 @@ first_inside n k false e j f = absurd (none-some j f)
 position_inside : {X : Type 0} (p : X → Bool) (xs : List X) (j : ℕ) → position p xs ≡ Some j → j < length xs
 position_inside p xs j e = (first_inside (length xs) (position_or_len p xs) _ refl j e).0
 
-either_below : (n : ℕ) (a b : Option ℕ) (k : ℕ) → ((j : ℕ) → a ≡ Some j → j < n) → ((j : ℕ) → b ≡ Some j → j < n) → or_else a b ≡ Some k → k < n
+either_below : (n : ℕ) (a b : Option ℕ) (k : ℕ) → ((j : ℕ) → a ≡ Some j → j < n) → ((j : ℕ) → b ≡ Some j → j < n) → option_or a b ≡ Some k → k < n
 either_below n None b k p q e = q k e
 either_below n (Some x) b k p q e = p k e
 

@@ -1,5 +1,6 @@
 -- What selection gives.
 use Rattle.std.proofs.Common.{◌≡◌, ◌⊎◌, inl, inr, ℕ, zero, suc, ◌+◌, ◌<◌, min, Bool, true, false, List, [], ◌∷◌, ◌++◌, take, length, slice_get, Some, refl, sym, ap, subst, ◌∙◌, arith}
+use Rattle.list_values.proofs.Parts.{in_whole}
 use Rattle.std.proofs.lemmas.Option.{same_Some, none-some}
 use Rattle.std.proofs.lemmas.List.{length-append, length-take}
 use Rattle.vec_names.specs.declared.params.Ops.{Ops}
@@ -27,12 +28,6 @@ picks_long ops cs count =
     ∙ ap (min count) (places_long 0 (far_marks ops [] cs) ∙ marks_long ops [] cs)
 
 -- ---- which places
-
-pub in_whole : {X : Type 0} (n : ℕ) (xs : List X) (j : ℕ) (x : X) → slice_get (take n xs) j ≡ Some x → slice_get xs j ≡ Some x
-in_whole zero xs j x e = absurd (none-some x e)
-in_whole (suc n) [] j x e = e
-in_whole (suc n) (y ∷ ys) zero x e = e
-in_whole (suc n) (y ∷ ys) (suc j) x e = in_whole n ys j x e
 
 in_parts : {X : Type 0} (xs ys : List X) (i : ℕ) (x : X) → slice_get (xs ++ ys) i ≡ Some x
     → (slice_get xs i ≡ Some x) ⊎ ((j : ℕ) × (i ≡ length xs + j) × (slice_get ys j ≡ Some x))

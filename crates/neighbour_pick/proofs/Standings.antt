@@ -1,6 +1,6 @@
 -- Rivals in order, and the one that is left out.
 use Rattle.std.proofs.Common.{◌≡◌, ℕ, suc, ◌+◌, ◌-◌, ◌<◌, ◌≤◌, false, List, [], ◌∷◌, ◌++◌, map, drop, length, get_or, slice_get, Option, Some, None, is_none, refl, sym, ap, ◌∙◌, arith}
-use Rattle.std.specs.Option.{option_map}
+use Rattle.std.specs.Option.{option_map, option_or}
 use Rattle.std.proofs.lemmas.Option.{slice_get-get_or, slice_get-map, slice_get_past}
 use Rattle.std.proofs.lemmas.List.{drop_more, drop_all, length-map}
 use Rattle.vec_names.specs.declared.tid.Tid.{Tid}
@@ -9,7 +9,7 @@ use Rattle.list_values.specs.Ranking.{placed, ranked}
 use Rattle.neighbour_pick.specs.declared.found.SlotSeen.{SlotSeen}
 use Rattle.neighbour_pick.specs.Order.{Candidate}
 use Rattle.neighbour_pick.specs.Selection.{far_marks}
-use Rattle.neighbour_pick.specs.Slots.{Rival, member_in, members_from, not_far, last_of, or_else, left_out}
+use Rattle.neighbour_pick.specs.Slots.{Rival, member_in, members_from, not_far, last_of, left_out}
 use Rattle.neighbour_pick.specs.Standing.{entering, member_or, rival_in, rival_at, is_before, rivals_from, last_near}
 
 -- ---- in order
@@ -40,7 +40,7 @@ member_placed slots entrant k seen h is some =
 
 -- ---- the one left out
 
-other_of_none : (o other : Option Rival) → None ≡ or_else o None → other ≡ or_else o other
+other_of_none : (o other : Option Rival) → None ≡ option_or o None → other ≡ option_or o other
 other_of_none None other e = refl
 other_of_none (Some r) other e = absurd cc
 

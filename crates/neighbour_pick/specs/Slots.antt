@@ -1,5 +1,6 @@
 -- The slot of a list of neighbours that a new neighbour takes, after pgvector: by which one is left out.
 use Rattle.std.specs.Prelude.{ℕ, suc, ◌++◌, ◌-◌, if◌then◌else◌, Bool, true, false, not, List, [], ◌∷◌, map, length, slice_get, Option, Some, None, is_none}
+use Rattle.std.specs.Option.{option_or}
 use Rattle.std.specs.List.{list_any, position}
 use Rattle.std.specs.Ordering.{eq_by_cmp}
 use Rattle.vec_names.specs.declared.tid.Tid.{Tid}
@@ -37,13 +38,9 @@ not_far (r ∷ rs) (false ∷ marks) = r ∷ not_far rs marks
 abbrev pub last_of : {X : Type 0} → List X → Option X
 last_of xs = slice_get xs (length xs - 1)
 
-abbrev pub or_else : {X : Type 0} → Option X → Option X → Option X
-or_else None other = other
-or_else (Some x) other = Some x
-
 -- the one that goes without a slot: the last that is not far from the far ones before it, or the last of all where all are far
 abbrev pub left_out : Ops → List Rival → Option Rival
-left_out ops rs = or_else (last_of (not_far rs (far_marks ops [] (map (λ r. r.is) rs)))) (last_of rs)
+left_out ops rs = option_or (last_of (not_far rs (far_marks ops [] (map (λ r. r.is) rs)))) (last_of rs)
 
 abbrev pub slot_left : Option Rival → Option ℕ
 slot_left None = None
@@ -59,4 +56,4 @@ abbrev pub slot_of : Ops → List SlotSeen → Candidate → Option ℕ
 slot_of ops slots entrant =
     if list_any (λ s. is_named entrant.at s.at) slots
     then None
-    else or_else (position (λ s. is_none s.at) slots) (or_else (position (λ s. not s.live) slots) (slot_left (left_out ops (rivals slots entrant))))
+    else option_or (position (λ s. is_none s.at) slots) (option_or (position (λ s. not s.live) slots) (slot_left (left_out ops (rivals slots entrant))))

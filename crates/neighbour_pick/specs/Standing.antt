@@ -1,12 +1,13 @@
 -- Rivals by their numbers: a member goes by that of its slot, and the entrant by a number that is no such.
 use Rattle.std.specs.Prelude.{ℕ, ◌++◌, Bool, List, [], ◌∷◌, map, drop, slice_get, Option, Some, None}
+use Rattle.std.specs.Option.{option_or}
 use Rattle.vec_names.specs.declared.tid.Tid.{Tid}
 use Rattle.vec_names.specs.declared.params.Ops.{Ops}
 use Rattle.list_values.specs.Ranking.{ranked}
 use Rattle.neighbour_pick.specs.declared.found.SlotSeen.{SlotSeen}
 use Rattle.neighbour_pick.specs.Order.{Candidate, is_nearer}
 use Rattle.neighbour_pick.specs.Selection.{far_marks}
-use Rattle.neighbour_pick.specs.Slots.{Rival, members_from, not_far, last_of, or_else}
+use Rattle.neighbour_pick.specs.Slots.{Rival, members_from, not_far, last_of}
 
 -- the entrant as a rival
 abbrev pub entering : Candidate → Rival
@@ -36,4 +37,4 @@ rivals_from slots entrant k = ranked is_before (members_from k (drop k slots) ++
 
 -- The last of these that is not far, where `others` are the far ones before them. Where all are far, it is the last one before them.
 abbrev pub last_near : Ops → List Rival → List Rival → Option Rival → Option Rival
-last_near ops others rs before = or_else (last_of (not_far rs (far_marks ops (map (λ r. r.is) others) (map (λ r. r.is) rs)))) before
+last_near ops others rs before = option_or (last_of (not_far rs (far_marks ops (map (λ r. r.is) others) (map (λ r. r.is) rs)))) before

@@ -1,5 +1,6 @@
 -- A map is what its entries make, put in one after the other.
 use Rattle.std.proofs.Common.{◌≡◌, true, false, cond, ◌&&◌, T, List, [], ◌∷◌, Option, Some, None, refl, sym, ap, subst, ◌∙◌}
+use Rattle.std.specs.Option.{option_or}
 use Rattle.std.specs.declared.cmp.Ordering.{Ordering}
 use Rattle.std.specs.declared.cmp.Ordering.TheVariants.{Less, Equal, Greater}
 use Rattle.std.specs.Ordering.{is_lt, is_eq, eq_by_cmp}
@@ -8,28 +9,23 @@ use Rattle.std.specs.FinMap.Entries.{below_all}
 use Rattle.vec_names.specs.declared.tid.Tid.{Tid}
 use Rattle.vec_names.specs.Order.{tid_cmp, tid_cmp_total, tid_cmp_exact}
 
-equal : (r : Ordering) → is_eq r ≡ true → r ≡ Equal
+pub equal : (r : Ordering) → is_eq r ≡ true → r ≡ Equal
 equal Less e = cc
 equal Equal e = refl
 equal Greater e = cc
 
-not_equal : (r : Ordering) → T (is_lt r) → is_eq r ≡ false
+pub not_equal : (r : Ordering) → T (is_lt r) → is_eq r ≡ false
 not_equal Less h = refl
 not_equal Equal h = absurd h
 not_equal Greater h = absurd h
 
-left : (a b : _) → T (a && b) → T a
+pub left : (a b : _) → T (a && b) → T a
 left true b p = tt
 left false b p = absurd p
 
-right : (a b : _) → T (a && b) → T b
+pub right : (a b : _) → T (a && b) → T b
 right true b p = p
 right false b p = absurd p
-
--- the first of the two that is there
-abbrev pub or_else : {V : Type 0} → Option V → Option V → Option V
-or_else None o = o
-or_else (Some v) o = Some v
 
 module _ {V : Type 0} where
   -- the entries put into a map, the first one first
@@ -37,28 +33,28 @@ module _ {V : Type 0} where
   put_all m [] = m
   put_all m (e ∷ es) = put_all (insert m e.0 e.1) es
 
-  missing : (k : Tid) (es : List (Tid × V)) → T (below_all tid_cmp k es) → find tid_cmp k es ≡ None
+  pub missing : (k : Tid) (es : List (Tid × V)) → T (below_all tid_cmp k es) → find tid_cmp k es ≡ None
   missing k [] h = refl
   missing k (e ∷ es) h =
       ap (λ b. cond b (Some e.1) (find tid_cmp k es)) (not_equal (tid_cmp k e.0) (left _ _ h)) ∙ missing k es (right _ _ h)
 
   get_all : (es : List (Tid × V)) → T (is_sorted tid_cmp es) → (m : FinMap tid_cmp V) (q : Tid)
-      → get (put_all m es) q ≡ or_else (find tid_cmp q es) (get m q)
+      → get (put_all m es) q ≡ option_or (find tid_cmp q es) (get m q)
   get_all [] h m q = refl
   get_all (e ∷ es) h m q =
       get_all es (right _ _ h) (insert m e.0 e.1) q
-      ∙ ap (or_else (find tid_cmp q es)) (get-insert tid_cmp_total m e.0 e.1 q)
+      ∙ ap (option_or (find tid_cmp q es)) (get-insert tid_cmp_total m e.0 e.1 q)
       ∙ elim (eq_by_cmp tid_cmp q e.0) as (λ b. eq_by_cmp tid_cmp q e.0 ≡ b
-      → or_else (find tid_cmp q es) (cond b (Some e.1) (get m q)) ≡ or_else (cond b (Some e.1) (find tid_cmp q es)) (get m q)) [
-        | true ↦ λ is. ap (λ o. or_else o (Some e.1))
+      → option_or (find tid_cmp q es) (cond b (Some e.1) (get m q)) ≡ option_or (cond b (Some e.1) (find tid_cmp q es)) (get m q)) [
+        | true ↦ λ is. ap (λ o. option_or o (Some e.1))
             (missing q es (subst (λ (k : Tid). T (below_all tid_cmp k es)) (sym (tid_cmp_exact q e.0 (equal _ is))) (left _ _ h)))
         | false ↦ λ _. refl
       ] refl
 
-  none_else : (o : Option V) → or_else o None ≡ o
+  none_else : (o : Option V) → option_or o None ≡ o
   none_else None = refl
   none_else (Some v) = refl
 
   pub all_made : (m : FinMap tid_cmp V) → put_all empty (entries m) ≡ m
   all_made m = same_map tid_cmp_total tid_cmp_exact (put_all empty (entries m)) m (λ q. get_all (entries m) (entries_sorted m) empty q
-      ∙ ap (or_else (find tid_cmp q (entries m))) (get-empty tid_cmp q) ∙ none_else _ ∙ sym (get-entries m q))
+      ∙ ap (option_or (find tid_cmp q (entries m))) (get-empty tid_cmp q) ∙ none_else _ ∙ sym (get-entries m q))

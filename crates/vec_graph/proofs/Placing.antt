@@ -1,5 +1,6 @@
 -- Where nodes stand, and where a new one may.
 use Rattle.std.proofs.Common.{◌≡◌, ◌⊎◌, inl, inr, ℕ, ◌+◌, ◌<◌, ◌≤◌, max, Bool, true, false, cond, ◌&&◌, T, ◌==◌, List, [], ◌∷◌, find, Option, Some, None, refl, sym, ap, subst, ◌∙◌, arith, true≢false}
+use Rattle.std.specs.Option.{option_or}
 use Rattle.std.proofs.lemmas.Bool.{eq-eqb, eqb-true}
 use Rattle.std.specs.declared.cmp.Ordering.{Ordering}
 use Rattle.std.specs.declared.cmp.Ordering.TheVariants.{Less, Equal, Greater}
@@ -19,7 +20,7 @@ use Rattle.vec_graph.specs.declared.place.Place.{Place}
 use Rattle.vec_graph.specs.declared.node.Node.{Node}
 use Rattle.vec_graph.specs.declared.graph.Graph.{Graph}
 use Rattle.vec_graph.specs.Graph.{node_at}
-use Rattle.vec_graph.specs.Places.{one_if, last_off, greatest_off, next_off, fresh_place, fresh_at, is_reusable, reused, or_else, together_on, apart_on, fresh_on, fits_one_page, place_on, new_place, IsOnBlocks, IsFree}
+use Rattle.vec_graph.specs.Places.{one_if, last_off, greatest_off, next_off, fresh_place, fresh_at, is_reusable, reused, together_on, apart_on, fresh_on, fits_one_page, place_on, new_place, IsOnBlocks, IsFree}
 use Rattle.vec_graph.specs.Effect.{effect, after, changed, changed_from, joined, linked, relisted, dropped, marked}
 use Rattle.vec_graph.specs.Rules.{IsPlaced}
 
@@ -136,7 +137,7 @@ reused_free g b level e is = λ n stands.
     (ap (λ (m : Node). m.deleted) (sym same) ∙ left _ _ test, ap (λ (m : Node). m.level) (sym same) ∙ eqb-true _ _ (right _ _ test))
 
 on_block_free : (g : Graph) (b level : ℕ) (s : Place) (o : Option (Tid × Node)) → find (is_reusable b level) (fin.entries g.nodes) ≡ o
-    → or_else (reused o) (fresh_on g b level) ≡ Some s → IsFree g s.at level
+    → option_or (reused o) (fresh_on g b level) ≡ Some s → IsFree g s.at level
 on_block_free g b level s None found is = fresh_free g b level s is
 on_block_free g b level s (Some e) found is =
     subst (λ (t : Tid). IsFree g t level) (ap (λ (t : Place). t.at) (same_Some _ s is)) (reused_free g b level e found)
@@ -167,7 +168,7 @@ reused_list g b level e is n stands =
     ap (λ (m : Node). m.list_at) (same_Some _ _ (sym stands ∙ there))
 
 on_block_list : (g : Graph) (b level : ℕ) (s : Place) (o : Option (Tid × Node)) → find (is_reusable b level) (fin.entries g.nodes) ≡ o
-    → or_else (reused o) (fresh_on g b level) ≡ Some s → (n : Node) → node_at g s.at ≡ Some n → n.list_at ≡ s.list_at
+    → option_or (reused o) (fresh_on g b level) ≡ Some s → (n : Node) → node_at g s.at ≡ Some n → n.list_at ≡ s.list_at
 on_block_list g b level s None found is n stands = absurd (none_fresh g b level s is n stands)
 on_block_list g b level s (Some e) found is n stands =
     let spot = same_Some _ s is in
@@ -180,14 +181,14 @@ same_list g at level s on (inr is) n stands = absurd (none_new g level s on is.0
 -- a place on a block is on that block, and one that is used anew is told with its version
 
 on_block_number : (g : Graph) (b level : ℕ) (s : Place) (o : Option (Tid × Node)) → find (is_reusable b level) (fin.entries g.nodes) ≡ o
-    → or_else (reused o) (fresh_on g b level) ≡ Some s → s.at.block ≡ b
+    → option_or (reused o) (fresh_on g b level) ≡ Some s → s.at.block ≡ b
 on_block_number g b level s None found is = (fresh_on_numbers g b level s is).0
 on_block_number g b level s (Some e) found is =
     let test = passes_there tid_cmp tid_cmp_total (fin.entries g.nodes) (is_reusable b level) e found in
     sym (ap (λ (t : Place). t.at.block) (same_Some _ s is)) ∙ eqb-true _ _ (left _ _ test)
 
 on_block_version : (g : Graph) (b level : ℕ) (s : Place) (o : Option (Tid × Node)) → find (is_reusable b level) (fin.entries g.nodes) ≡ o
-    → or_else (reused o) (fresh_on g b level) ≡ Some s → (n : Node) → node_at g s.at ≡ Some n → n.version ≡ s.version
+    → option_or (reused o) (fresh_on g b level) ≡ Some s → (n : Node) → node_at g s.at ≡ Some n → n.version ≡ s.version
 on_block_version g b level s None found is n stands = absurd (none_fresh g b level s is n stands)
 on_block_version g b level s (Some e) found is n stands =
     let spot = same_Some _ s is in

@@ -1,5 +1,6 @@
 -- Allowed acts keep a graph shaped.
 use Rattle.std.proofs.Common.{◌≡◌, ◌≢◌, inl, inr, ℕ, zero, suc, ◌+◌, ◌%◌, ◌/◌, ◌<◌, ◌≤◌, ◌==◌, ◌||◌, ◌&&◌, cond, max, Bool, true, false, List, [], ◌∷◌, ◌++◌, find, length, slice_set, Option, Some, None, refl, sym, ap, subst, ◌∙◌, arith, true≢false, nat_le, nat_lt}
+use Rattle.std.specs.Option.{option_or}
 use Rattle.std.specs.FinMap as fin
 use Rattle.std.proofs.lemmas.Option.{same_Some, none-some}
 use Rattle.std.proofs.lemmas.List.{length-replicate, length-append}
@@ -19,7 +20,7 @@ use Rattle.vec_graph.specs.declared.node.Node.{Node}
 use Rattle.vec_graph.specs.declared.graph.Graph.{Graph}
 use Rattle.vec_graph.specs.Graph.{node_at}
 use Rattle.vec_graph.specs.declared.place.Place.{Place}
-use Rattle.vec_graph.specs.Places.{fresh_place, fresh_at, is_reusable, reused, or_else, together_on, apart_on, fresh_on, fits_one_page, next_off, room, element_need, list_need, IsOnBlocks}
+use Rattle.vec_graph.specs.Places.{fresh_place, fresh_at, is_reusable, reused, together_on, apart_on, fresh_on, fits_one_page, next_off, room, element_need, list_need, IsOnBlocks}
 use Rattle.vec_graph.specs.Effect.{effect, after, with_node, with_new, changed, changed_from, joined, linked, relisted, dropped, marked}
 use Rattle.vec_graph.specs.Rules.{IsPlaced, IsEventAllowed, IsPutAllowed, IsEntryAllowed}
 use Rattle.vec_graph.specs.Legal.{IsAllowed, IsLegal}
@@ -120,7 +121,7 @@ then_some false o x e = absurd (none-some x e)
 
 module _ (g : Graph) (shaped : IsShaped g) (level : ℕ) (s : Place) where
   on_block : (b : ℕ) (o : Option (Tid × Node)) → 1 ≤ b → b < g.blocks → find (is_reusable b level) (fin.entries g.nodes) ≡ o
-      → or_else (reused o) (fresh_on g b level) ≡ Some s → IsPlaceWithin g.blocks s
+      → option_or (reused o) (fresh_on g b level) ≡ Some s → IsPlaceWithin g.blocks s
   on_block b None low high found is =
       elim (fits_one_page g level) as (λ t. cond t (together_on g b level) (apart_on g b level) ≡ Some s → IsPlaceWithin g.blocks s) [
         | true ↦ λ e. fresh_shaped g.blocks b (next_off g b) b (next_off g b + 1) s low high low high (then_some _ _ s e).1

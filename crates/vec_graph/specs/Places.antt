@@ -1,6 +1,6 @@
 -- Where a new node may stand: computed from the lengths of what stands on the pages, and from nothing else.
 use Rattle.std.specs.Prelude.{◌≡◌, ℕ, ◌+◌, ◌*◌, ◌-◌, ◌/◌, ◌<◌, ◌==◌, ◌&&◌, nat_le, nat_lt, if◌then◌else◌, max, Bool, true, List, [], ◌∷◌, find, sum_by, Option, Some, None}
-use Rattle.std.specs.Option.{option_map}
+use Rattle.std.specs.Option.{option_map, option_or}
 use Rattle.std.specs.FinMap as fin
 use Rattle.index_sizes.specs.declared.limits.TheConstants.{PAGE_ROOM}
 use Rattle.index_sizes.specs.Sizes.{item_need, element_size, links_size, slots_of_level}
@@ -87,15 +87,11 @@ apart_on g b level =
 abbrev pub fresh_on : Graph → ℕ → ℕ → Option Place
 fresh_on g b level = if fits_one_page g level then together_on g b level else apart_on g b level
 
-abbrev pub or_else : Option Place → Option Place → Option Place
-or_else None p = p
-or_else (Some s) p = Some s
-
 -- the place on a block for a node of this level, if there is one: that of a deleted node of its level, or else a fresh one
 abbrev pub place_on : Graph → ℕ → ℕ → Option Place
 place_on g b level =
     if nat_le 1 b && nat_lt b g.blocks
-    then or_else (reused (find (is_reusable b level) (fin.entries g.nodes))) (fresh_on g b level)
+    then option_or (reused (find (is_reusable b level) (fin.entries g.nodes))) (fresh_on g b level)
     else None
 
 -- how many new blocks a node of this level takes
