@@ -9,12 +9,12 @@ use Rattle.vec_history.specs.declared.event.Event.TheVariants.{Join, Link, Relis
 use Rattle.page_bytes.specs.Content.{Content, IsPage}
 use Rattle.vec_tuples.specs.declared.element.Element.{Element}
 use Rattle.vec_tuples.specs.declared.links.Links.{Links}
-use Rattle.vec_tuples.specs.Spelling.{head_with, links_with}
+use Rattle.vec_tuples.specs.Spelling.{is_level, head_with, links_with}
 use Rattle.vec_graph.specs.declared.node.Node.{Node}
 use Rattle.vec_graph.specs.declared.graph.Graph.{Graph}
 use Rattle.vec_graph.specs.Rules.{IsThere}
 use Rattle.page_redo.specs.PageTuples.{is_graph}
-use Rattle.page_redo.specs.PageChanges.{is_current, is_level, joined, dropped, linked, relisted, entered, hinted}
+use Rattle.page_redo.specs.PageChanges.{is_current, joined, dropped, linked, relisted, entered, hinted}
 use Rattle.graph_pages.specs.Standing.{node_with as made_of, Stands}
 use Rattle.graph_pages.specs.Fitting.{Fits}
 use Rattle.graph_pages.proofs.RoleFits.{meta_role_fits, of_graph_kind, head_role_fits, links_role_fits}

@@ -21,3 +21,5 @@ pub mod TwoItems
 pub mod MarkEffect
 pub mod RoleFits
 pub mod EventFits
+pub mod StandingShape
+pub mod FreshPages

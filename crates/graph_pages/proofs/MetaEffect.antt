@@ -9,7 +9,7 @@ use Rattle.vec_names.specs.declared.params.Params.{Params}
 use Rattle.page_bytes.specs.Content.{Content, IsPage, item_at}
 use Rattle.vec_tuples.specs.declared.meta.Meta.{Meta}
 use Rattle.vec_tuples.specs.declared.element.Element.{Element}
-use Rattle.vec_tuples.specs.Spelling.{IsMeta, IsLevelOf, meta_bytes, head_of_element}
+use Rattle.vec_tuples.specs.Spelling.{IsMeta, IsLevelOf, is_level, meta_bytes, head_of_element}
 use Rattle.vec_tuples.specs.Reading.{meta, element, links}
 use Rattle.vec_tuples.proofs.MetaLaws.{meta_field}
 use Rattle.vec_tuples.proofs.ElementLaws.{element_field}
@@ -17,7 +17,7 @@ use Rattle.vec_graph.specs.declared.node.Node.{Node}
 use Rattle.vec_graph.specs.declared.graph.Graph.{Graph}
 use Rattle.vec_graph.specs.Graph.{HasLevel}
 use Rattle.page_redo.specs.PageTuples.{in_whole, meta_at, with_item, meta_changed, is_graph, is_meta_page}
-use Rattle.page_redo.specs.PageChanges.{on_meta, entered, hinted, is_level}
+use Rattle.page_redo.specs.PageChanges.{on_meta, entered, hinted}
 use Rattle.page_redo.specs.Redo.{at_one, numbered}
 use Rattle.graph_pages.specs.Standing.{item_in, element_in, head_in, links_in, root_on, root, of_graph, is_of_level, is_entry, is_element, pointers, is_list, is_node_item, node_with as made_of, node_in, Stands}
 use Rattle.byte_fields.proofs.EachField.{some_is}
@@ -157,8 +157,8 @@ module _ (pages : List Content) (g : Graph) (all : All IsPage pages) (s : Stands
 
   level_good : (to : Option Tid) (level : ℕ) → is_level to level ≡ true → ((at : Tid) → to ≡ Some at → HasLevel g at level)
       → IsLevelOf to level
-  level_good None level is has = eqb-true level 0 is
-  level_good (Some at) level is has = (element_there at level (has at refl)).0
+  level_good None level is has = (is, omega (arith, eqb-true level 0 is))
+  level_good (Some at) level is has = (is, (element_there at level (has at refl)).0)
 
   -- ---- redo
 

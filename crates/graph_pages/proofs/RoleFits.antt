@@ -16,7 +16,6 @@ use Rattle.vec_tuples.specs.declared.element.ElementHead.{ElementHead}
 use Rattle.vec_tuples.specs.declared.links.Links.{Links}
 use Rattle.vec_tuples.specs.Spelling.{meta_bytes, element_bytes, links_bytes, head_of_element}
 use Rattle.vec_tuples.specs.Reading.{meta, element, links}
-use Rattle.vec_tuples.proofs.ElementLaws.{element_field}
 use Rattle.vec_graph.specs.declared.node.Node.{Node}
 use Rattle.vec_graph.specs.declared.graph.Graph.{Graph}
 use Rattle.vec_graph.specs.Graph.{node_at}
@@ -24,12 +23,10 @@ use Rattle.page_redo.specs.PageTuples.{in_whole, read_at, with_item, with_head, 
 use Rattle.page_redo.specs.PageChanges.{PageChange, on_graph, on_meta}
 use Rattle.page_redo.specs.Redo.{at_one, numbered}
 use Rattle.graph_pages.specs.Standing.{item_in, read_in, element_in, links_in, head_in, is_list_of, is_element, is_list, node_with as made_of, Stands}
-use Rattle.graph_pages.proofs.Given.{then_is, map_is, item_bytes}
-use Rattle.page_redo.proofs.ItemLaws.{whole_spelled}
-use Rattle.page_redo.proofs.Pairs.{no_list}
-use Rattle.graph_pages.proofs.KindsApart.{meta_is_no_element, meta_is_no_list}
+use Rattle.graph_pages.proofs.Given.{then_is, map_is}
+use Rattle.graph_pages.proofs.KindsApart.{meta_is_no_element, meta_is_no_list, element_is_no_list}
 use Rattle.graph_pages.proofs.StandingLaws.{IsRootOf, root_is, root_spelled, node_pages}
-use Rattle.graph_pages.proofs.HeadEffect.{low_from, params_in_range}
+use Rattle.graph_pages.proofs.HeadEffect.{low_from}
 use Rattle.graph_pages.proofs.OneItem.{not_root}
 use Rattle.graph_pages.proofs.ElementEffect.{first_of_two}
 
@@ -97,7 +94,7 @@ module _ (pages : List Content) (g : Graph) (all : All IsPage pages) (s : Stands
       (c.0, c.1, page.kind c.0 c.1, ap (λ o. option_and_then (λ x. in_whole (f x)) o) c.2 ∙ x.2)
 
   -- the element and the list that a node is made of
-  node_there : (at : Tid) (n : Node) → node_at g at ≡ Some n
+  pub node_there : (at : Tid) (n : Node) → node_at g at ≡ Some n
       → (e : Element) × (element_in s.meta.params pages at ≡ Some e) × (l : Links) × (links_in s.meta.params pages e.list_at ≡ Some l) × (made_of e l ≡ n)
   node_there at n stands =
       let p = s.meta.params in
@@ -105,25 +102,29 @@ module _ (pages : List Content) (g : Graph) (all : All IsPage pages) (s : Stands
       let l = map_is (made_of e.0) (links_in p pages e.0.list_at) n e.2 in
       (e.0, e.1, l.0, l.1, l.2)
 
-  -- the list of an element is of its version and its deleted state
-  list_alike : (at : Tid) (e : Element) (l : Links) → element_in s.meta.params pages at ≡ Some e → links_in s.meta.params pages e.list_at ≡ Some l
-      → (l.version ≡ e.version) × (l.deleted ≡ e.deleted)
-  list_alike at e l element_is list_is =
+  -- the list of an element fits it
+  pub list_fits : (at : Tid) (e : Element) (l : Links) → element_in s.meta.params pages at ≡ Some e → links_in s.meta.params pages e.list_at ≡ Some l
+      → is_list_of s.meta.params (head_of_element e) (Some l) ≡ true
+  list_fits at e l element_is list_is =
       let p = s.meta.params in
       let h = head_of_element e in
       let x = then_is (λ x. in_whole (element p x)) (item_in pages at) e element_is in
-      let c = then_is (λ (c : Content). item_at c.items at.off) (slice_get pages at.block) x.0 x.1 in
-      let spelled = whole_spelled (element_field p (params_in_range pages g s all)) x.0 e (item_bytes pages at.block at.off c.0 x.0 all c.1 c.2) x.2 in
       let there = tuple_there (element p) at e (meta_is_no_element p s.meta) element_is in
       let apart : at.block ≡ 0 → ⊥ = not_root pages g at.block there.0 s there.1 there.2 in
       let page = node_pages pages g s at.block (low_from at.block apart) in
       let as_head : head_in p pages at ≡ Some h = ap (option_map head_of_element) element_is in
-      let as_list : links_in p pages at ≡ None = ap (λ o. option_and_then (λ x. in_whole (links p x)) o) x.1 ∙ ap (λ x. in_whole (links p x)) spelled.1 ∙ no_list p e in
+      let as_list : links_in p pages at ≡ None = ap (λ o. option_and_then (λ x. in_whole (links p x)) o) x.1 ∙ element_is_no_list p x.0 e x.2 in
       let good = first_of_two (is_element p pages (head_in p pages at)) (is_list p pages at (links_in p pages at)) (page.items at x.0 refl x.1) (ap (is_list p pages at) as_list) in
-      let fits : is_list_of p h (Some l) ≡ true = ap (is_list_of p h) (sym list_is) ∙ ap (is_element p pages) (sym as_head) ∙ good in
-      let parts = and_parts (length l.tids == slots_of_level p.m h.level) (l.version == h.version && beq l.deleted h.deleted) fits in
-      let alike = and_parts (l.version == h.version) (beq l.deleted h.deleted) parts.1 in
-      (eqb-true l.version h.version alike.0, same_if_beq l.deleted h.deleted alike.1)
+      ap (is_list_of p h) (sym list_is) ∙ ap (is_element p pages) (sym as_head) ∙ good
+
+  -- so it has the slots of its level, is of its version and of its deleted state
+  pub list_alike : (at : Tid) (e : Element) (l : Links) → element_in s.meta.params pages at ≡ Some e → links_in s.meta.params pages e.list_at ≡ Some l
+      → (l.version ≡ e.version) × (l.deleted ≡ e.deleted) × (length l.tids ≡ slots_of_level s.meta.params.m e.level)
+  list_alike at e l element_is list_is =
+      let p = s.meta.params in
+      let parts = and_parts (length l.tids == slots_of_level p.m e.level) (l.version == e.version && beq l.deleted e.deleted) (list_fits at e l element_is list_is) in
+      let alike = and_parts (l.version == e.version) (beq l.deleted e.deleted) parts.1 in
+      (eqb-true l.version e.version alike.0, same_if_beq l.deleted e.deleted alike.1, eqb-true (length l.tids) (slots_of_level p.m e.level) parts.0)
 
   -- an event that changes the head of a node's element
   pub head_role_fits : (number : ℕ) (at : Tid) (n : Node) (change : ElementHead → Option ElementHead) → node_at g at ≡ Some n

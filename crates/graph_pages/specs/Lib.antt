@@ -2,6 +2,7 @@
 pub mod Standing
 pub mod Effects
 pub mod Fitting
+pub mod Growing
 -- What the check of the pages and the reading of the nodes keep as they go. No contract of a public function cites it.
 pub mod Decoding
 pub mod Filling

@@ -3,7 +3,7 @@
 //! Redo itself tests versions, deleted states, and the numbers of ids and slots. What a law asks besides is what an event that
 //! the rules allow gives.
 
-ghost use Rattle.std.specs.Prelude.{◌≡◌, ◌≤◌, ◌<◌, ℕ, List, Option, Some, slice_get, All};
+ghost use Rattle.std.specs.Prelude.{◌≡◌, ◌≤◌, ◌<◌, ◌+◌, ◌++◌, ℕ, List, Option, Some, slice_get, replicate, All};
 ghost use Rattle.vec_names.specs.declared.tid.Tid.{Tid as Place};
 ghost use Rattle.vec_names.specs.declared.heap_id.HeapId.{HeapId};
 ghost use Rattle.vec_history.specs.declared.event.Event.TheVariants.{Join, Link, Relist, Drop, Mark, Entry, Hint};
@@ -14,6 +14,15 @@ ghost use Rattle.vec_graph.specs.Graph.{node_at, HasLevel};
 ghost use Rattle.vec_graph.specs.Effect.{effect};
 ghost use Rattle.graph_pages.specs.Standing.{Stands};
 ghost use Rattle.graph_pages.specs.Effects.{RedoIsEffect, AreRedone};
+ghost use Rattle.graph_pages.specs.Growing.{fresh_page};
+
+use page_bytes::PageKind;
+
+/// A law, and no work. With fresh pages behind them, pages stand for the same graph, which has more blocks.
+pub fn law_fresh()
+    ensures { (pages : List Content) (g : Graph) (count : ℕ) → Stands pages g
+        → Stands (pages ++ replicate count (fresh_page PageKind.Hnsw)) (record g { blocks = g.blocks + count }) }
+{}
 
 /// A law, and no work. Redo of another hint is that event's effect on the graph, where the graph has so many blocks.
 pub fn law_hint()

@@ -1,11 +1,11 @@
 //! Pages that stand for a graph, and pages that break each of the rules.
 
 use crate::{
-    GraphFault, graph_of, law_drop, law_drop_fits, law_entry, law_entry_fits, law_hint,
+    GraphFault, graph_of, law_drop, law_drop_fits, law_entry, law_entry_fits, law_fresh, law_hint,
     law_hint_fits, law_join, law_join_fits, law_link, law_link_fits, law_mark, law_relist,
     law_relist_fits, law_standing,
 };
-use bit_code::{Bits, read_bits};
+use bit_code::read_bits;
 use page_bytes::{Page, PageKind};
 use page_redo::redo;
 use std::alloc::Global;
@@ -67,33 +67,26 @@ fn slots(alloc: Global, count: usize) -> Result<Listed<Option<Tid>>, Fail> {
     Ok(slots)
 }
 
-/// The event of a new node of level 0, with its list at the next offset.
-fn put(alloc: Global, off: u16, version: u8, bits: Bits, count: usize) -> Result<Event, Fail> {
+/// The event of a new node at 1/1 of level 0 with the value 0000.
+fn put(alloc: Global, list_at: Tid) -> Result<Event, Fail> {
     Ok(Event::Put {
-        at: place(off),
-        list_at: place(off.min(9) + 1),
-        version,
+        at: place(1),
+        list_at,
+        version: 1,
         level: 0,
         id: row(1),
-        bits,
-        lists: slots(alloc, count)?,
+        bits: read_bits(alloc, "0000")?,
+        lists: slots(alloc, 4)?,
     })
 }
 
-/// Whether the event fits the page of a block; then its number is given to the page, and else the page stays.
-fn fits(event: &Event, params: Params, wrap: u8, block: u32, page: &mut Page) -> bool {
-    if !params.check() {
+/// Whether the event is redone on the page of a block of that graph.
+fn is_redone(event: &Event, block: u32, page: &mut Page) -> bool {
+    if !GRAPH.check() {
         return false;
     }
-    let before = page.copied();
-    let fits = redo(event, &params, wrap, 0x0708, block, page).is_ok();
-    if fits {
-        page.number() == 0x0708
-    } else {
-        page.bytes() != before.bytes()
-    }
+    redo(event, &GRAPH, 255, 7, block, page).is_ok()
 }
-
 /// The parts of a small index: the meta tuple with the entry 1/1, the element 1/1 with its list 1/2, and the element 2/1
 /// with its list 1/3, whose first slot names 2/1.
 #[derive(Clone, Copy)]
@@ -215,8 +208,8 @@ fn the_graph_of_a_put(rt: HostRuntime) -> Result<(), Fail> {
     let mut meta = Page::fresh(PageKind::Meta);
     meta.add_item(&META);
     let mut first = Page::fresh(PageKind::Hnsw);
-    let new = put(alloc, 1, 1, read_bits(alloc, "0000")?, 4)?;
-    assert!(rt; fits(&new, GRAPH, 255, 1, &mut first));
+    let new = put(alloc, place(2))?;
+    assert!(rt; is_redone(&new, 1, &mut first));
     let mut pages = [meta, first];
     let graph = graph_of(alloc, &pages)?;
     assert!(rt; graph.params == GRAPH && graph.entry.is_none() && graph.level == 0);
@@ -226,9 +219,58 @@ fn the_graph_of_a_put(rt: HostRuntime) -> Result<(), Fail> {
     };
     assert!(rt; is_node(node));
     let to = Some(place(1));
-    assert!(rt; fits(&Event::Entry { to, level: 0 }, GRAPH, 255, 0, &mut pages[0]));
+    assert!(rt; is_redone(&Event::Entry { to, level: 0 }, 0, &mut pages[0]));
     let graph = graph_of(alloc, &pages)?;
     assert!(rt; graph.entry == to && graph.level == 0 && graph.nodes.len() == 1);
+    Ok(())
+}
+
+/// The page of block 0 alone.
+#[test]
+fn an_index_with_no_node(rt: HostRuntime) -> Result<(), Fail> {
+    let mut meta = Page::fresh(PageKind::Meta);
+    meta.add_item(&META);
+    let graph = graph_of(rt.alloc(), &[meta])?;
+    assert!(rt; graph.params == GRAPH && graph.entry.is_none() && graph.level == 0);
+    assert!(rt; graph.hint == 1 && graph.blocks == 1 && graph.nodes.len() == 0);
+    Ok(())
+}
+
+/// The element at 1/1, and its list at 2/1: put, and then marked.
+#[test]
+fn a_node_over_two_pages(rt: HostRuntime) -> Result<(), Fail> {
+    let alloc = rt.alloc();
+    let mut meta = Page::fresh(PageKind::Meta);
+    meta.add_item(&META);
+    let mut pages = [
+        meta,
+        Page::fresh(PageKind::Hnsw),
+        Page::fresh(PageKind::Hnsw),
+    ];
+    let list_at = Tid { block: 2, off: 1 };
+    let new = put(alloc, list_at)?;
+    assert!(rt; is_redone(&new, 1, &mut pages[1]));
+
+    // The element's list is not there yet.
+    assert!(rt; broken(alloc, &pages)? == Some(1));
+    assert!(rt; is_redone(&new, 2, &mut pages[2]));
+    let graph = graph_of(alloc, &pages)?;
+    let Some(node) = graph.nodes.get(place(1)) else {
+        panic!(rt; "no node stands at 1/1")
+    };
+    assert!(rt; graph.blocks == 3 && node.list_at == list_at && !node.deleted);
+    let mark = Event::Mark {
+        at: place(1),
+        list_at,
+        version: 1,
+    };
+    assert!(rt; is_redone(&mark, 1, &mut pages[1]) && is_redone(&mark, 2, &mut pages[2]));
+    let graph = graph_of(alloc, &pages)?;
+    let Some(node) = graph.nodes.get(place(1)) else {
+        panic!(rt; "no node stands at 1/1")
+    };
+    assert!(rt; node.deleted && node.version == 2 && node.ids.is_empty());
+    assert!(rt; node.slots.as_slice() == [None, None, None, None].as_slice());
     Ok(())
 }
 
@@ -328,9 +370,9 @@ fn redo_is_the_effect_on_the_graph(rt: HostRuntime) -> Result<(), Fail> {
         version: 1,
         id: row(2),
     };
-    assert!(rt; fits(&link, GRAPH, 255, 1, &mut pages[1]));
-    assert!(rt; fits(&join, GRAPH, 255, 1, &mut pages[1]));
-    assert!(rt; fits(&Event::Hint { block: 2 }, GRAPH, 255, 0, &mut pages[0]));
+    assert!(rt; is_redone(&link, 1, &mut pages[1]));
+    assert!(rt; is_redone(&join, 1, &mut pages[1]));
+    assert!(rt; is_redone(&Event::Hint { block: 2 }, 0, &mut pages[0]));
     let graph = graph_of(alloc, &pages)?;
     assert!(rt; graph.hint == 2 && graph.entry == Some(place(1)) && graph.nodes.len() == 2);
     let Some(node) = graph.nodes.get(place(1)) else {
@@ -344,6 +386,7 @@ fn redo_is_the_effect_on_the_graph(rt: HostRuntime) -> Result<(), Fail> {
 #[test]
 fn laws_are_called(_rt: HostRuntime) -> Result<(), Fail> {
     law_standing();
+    law_fresh();
     law_hint();
     law_entry();
     law_link();

@@ -1,20 +1,14 @@
 -- A meta tuple that is changed is one.
-use Rattle.std.proofs.Common.{◌≡◌, ℕ, ◌<◌, ◌≤◌, true, Option, Some, None}
-use Rattle.std.proofs.lemmas.Bool.{eqb-true}
+use Rattle.std.proofs.Common.{◌≡◌, ℕ, ◌≤◌, true, Option, Some, None}
 use Rattle.vec_names.specs.declared.tid.Tid.{Tid}
 use Rattle.vec_names.specs.declared.params.Kind.{Kind}
 use Rattle.vec_names.specs.declared.params.Kind.TheVariants.{Hnsw, Ivf}
-use Rattle.vec_tuples.specs.Spelling.{IsEntryOf, IsLevelOf, IsHintOf}
+use Rattle.vec_tuples.specs.Spelling.{IsEntryOf, IsHintOf}
 use Rattle.page_redo.specs.PageTuples.{is_graph}
-use Rattle.page_redo.specs.PageChanges.{is_level}
 
 pub entry_of_graph : (k : Kind) (to : Option Tid) → is_graph k ≡ true → IsEntryOf k to
 entry_of_graph Hnsw to is = tt
 entry_of_graph Ivf to is = absurd cc
-
-pub level_of_entry : (to : Option Tid) (level : ℕ) → is_level to level ≡ true → level < 256 → IsLevelOf to level
-level_of_entry None level is small = eqb-true level 0 is
-level_of_entry (Some at) level is small = small
 
 pub hint_of_graph : (k : Kind) (block : ℕ) → is_graph k ≡ true → 1 ≤ block → block ≤ 32768 → IsHintOf k block
 hint_of_graph Hnsw block is low high = (low, high)

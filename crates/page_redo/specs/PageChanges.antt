@@ -12,7 +12,7 @@ use Rattle.vec_tuples.specs.declared.meta.Meta.{Meta}
 use Rattle.vec_tuples.specs.declared.element.Element.{Element}
 use Rattle.vec_tuples.specs.declared.element.ElementHead.{ElementHead}
 use Rattle.vec_tuples.specs.declared.links.Links.{Links}
-use Rattle.vec_tuples.specs.Spelling.{element_bytes, element_with, head_with, links_bytes, links_with, entry_bytes, row_with, centre_with}
+use Rattle.vec_tuples.specs.Spelling.{is_level, element_bytes, element_with, head_with, links_bytes, links_with, entry_bytes, row_with, centre_with}
 use Rattle.page_redo.specs.PageTuples.{element_at, links_at, with_item, added, centre_changed, is_graph, is_meta_page, is_graph_page, is_lists_page, is_entries_page}
 
 abbrev pub PageChange : Type 0
@@ -37,12 +37,14 @@ is_old deleted found version = deleted && found == version
 -- an id goes last, of at most ten
 abbrev pub joined : ℕ → HeapId → ElementHead → Option ElementHead
 joined version id h =
-    when (is_current h.deleted h.version version && nat_lt (length h.ids.items) 10) (head_with h.level h.deleted h.version (h.ids.items ++ id ∷ []) h.list_at)
+    when (is_current h.deleted h.version version && nat_lt (length h.ids.items) 10)
+    (head_with h.level h.deleted h.version (h.ids.items ++ id ∷ []) h.list_at)
 
 -- the ids go that the mask names, whose bits past the ids are 0
 abbrev pub dropped : ℕ → ℕ → ElementHead → Option ElementHead
 dropped version gone h =
-    when (is_current h.deleted h.version version && nat_lt gone (2 ^ length h.ids.items)) (head_with h.level h.deleted h.version (kept gone h.ids.items) h.list_at)
+    when (is_current h.deleted h.version version && nat_lt gone (2 ^ length h.ids.items))
+    (head_with h.level h.deleted h.version (kept gone h.ids.items) h.list_at)
 
 -- the element is deleted, names no row, and has its next version
 abbrev pub marked : ℕ → ℕ → ElementHead → Option ElementHead
@@ -52,7 +54,8 @@ marked wrap version h =
 -- a slot becomes this place
 abbrev pub linked : ℕ → ℕ → Tid → Links → Option Links
 linked version slot to l =
-    when (is_current l.deleted l.version version && nat_lt slot (length l.tids)) (links_with l.deleted l.version (slice_set l.tids slot (Some to)))
+    when (is_current l.deleted l.version version && nat_lt slot (length l.tids))
+    (links_with l.deleted l.version (slice_set l.tids slot (Some to)))
 
 -- as many slots take the place of the slots
 abbrev pub relisted : ℕ → List (Option Tid) → Links → Option Links
@@ -122,19 +125,16 @@ put off may_go x c = put_over (item_at c.items off) off may_go x c
 -- the element goes to its place, which is new or that of a deleted one
 abbrev pub put_element : Params → NewNode → PageChange
 put_element p n =
-    on_graph p (λ c. if_so (is_node p n) (put n.at.off (is_old_element n.version (element_at p c n.at.off)) (element_bytes (new_element n)) c))
+    on_graph p (λ c. if_so (is_node p n)
+    (put n.at.off (is_old_element n.version (element_at p c n.at.off)) (element_bytes (new_element n)) c))
 
 -- and so does the list
 abbrev pub put_links : Params → NewNode → PageChange
 put_links p n =
-    on_graph p (λ c. if_so (is_node p n) (put n.list_at.off (are_old_links n.version (links_at p c n.list_at.off)) (links_bytes (new_links n)) c))
+    on_graph p (λ c. if_so (is_node p n)
+    (put n.list_at.off (are_old_links n.version (links_at p c n.list_at.off)) (links_bytes (new_links n)) c))
 
 -- ---- the meta page
-
--- 0 alone beside no entry point
-abbrev pub is_level : Option Tid → ℕ → Bool
-is_level None level = level == 0
-is_level (Some to) level = true
 
 -- an entry point, or none with the level 0
 abbrev pub entered : Option Tid → ℕ → Meta → Option Meta
@@ -160,7 +160,8 @@ entry_added p id bits = on_entries p (λ c. if_so (length bits == p.bits) (added
 -- a page without items is made fresh, with one entry
 abbrev pub grown : Params → HeapId → List Bool → PageChange
 grown p id bits =
-    on_entries p (λ c. if_so (length c.items == 0 && length bits == p.bits) (added (entry_bytes (row_with id bits)) (record c { next = None })))
+    on_entries p (λ c. if_so (length c.items == 0 && length bits == p.bits)
+    (added (entry_bytes (row_with id bits)) (record c { next = None })))
 
 -- the chain goes on at this block
 abbrev pub chained : Params → ℕ → List Bool → PageChange

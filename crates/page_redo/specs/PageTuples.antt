@@ -64,7 +64,8 @@ with_head h e = element_with h (beside h.deleted e.bits)
 -- changed so.
 abbrev pub head_changed : (ElementHead → Option ElementHead) → Params → ℕ → Content → Option Content
 head_changed change p off c =
-    option_and_then (λ e. option_map (λ h. with_item c off (element_bytes (with_head h e))) (change (head_of_element e))) (element_at p c off)
+    option_and_then (λ e. option_map (λ h. with_item c off (element_bytes (with_head h e))) (change (head_of_element e)))
+    (element_at p c off)
 
 abbrev pub links_changed : (Links → Option Links) → Params → ℕ → Content → Option Content
 links_changed change p off c =

@@ -184,7 +184,8 @@ fn change(event: &Event, params: &Params, wrap: u8, block: u32, page: &mut Page)
 fn put_node(page: &mut Page, params: &Params, block: u32, node: NewNode) -> Option<()>
     requires { IsInRange params.now }
     ensures { let n = node_of node.entry in
-        IsMade (at_two n.at.block (put_element params.now n) n.list_at.block (put_links params.now n) block page.old) page.old page.new result }
+        IsMade (at_two n.at.block (put_element params.now n) n.list_at.block (put_links params.now n) block page.old)
+        page.old page.new result }
 {
     if node.at.block != block {
         if node.list_at.block != block {

@@ -33,7 +33,8 @@ pub fn head_at(page: &Page, params: &Params, off: u16) -> Option<ElementHead>
     ensures told { result ≡ option_map head_of_element (element_at params.now page.now off) }
 
     // Its item is the tuple's spelling.
-    ensures spelled { (e : Element) → element_at params.now page.now off ≡ Some e → IsElement params.now e × (item_at page.now.items off ≡ Some (element_bytes e)) }
+    ensures spelled { (e : Element) → element_at params.now page.now off ≡ Some e → IsElement params.now e
+        × (item_at page.now.items off ≡ Some (element_bytes e)) }
 {
     match page.item(off) {
         Some(item) => head_of(item, params),
@@ -45,7 +46,8 @@ pub fn head_at(page: &Page, params: &Params, off: u16) -> Option<ElementHead>
 pub fn head_of(item: &[u8], params: &Params) -> Option<ElementHead>
     requires { IsInRange params.now }
     ensures told { result ≡ option_map head_of_element (in_whole (element params.now item.now)) }
-    ensures spelled { (e : Element) → in_whole (element params.now item.now) ≡ Some e → IsElement params.now e × (item.now ≡ element_bytes e) }
+    ensures spelled { (e : Element) → in_whole (element params.now item.now) ≡ Some e → IsElement params.now e
+        × (item.now ≡ element_bytes e) }
 {
     element_head(item, params)
 }
@@ -56,7 +58,8 @@ pub fn links_head_at(page: &Page, params: &Params, off: u16) -> Option<LinksHead
     ensures told { result ≡ option_map links_head (links_at params.now page.now off) }
 
     // Its item is the tuple's spelling.
-    ensures spelled { (l : Links) → links_at params.now page.now off ≡ Some l → IsLinks params.now l × (item_at page.now.items off ≡ Some (links_bytes l)) }
+    ensures spelled { (l : Links) → links_at params.now page.now off ≡ Some l → IsLinks params.now l
+        × (item_at page.now.items off ≡ Some (links_bytes l)) }
 {
     match page.item(off) {
         Some(item) => links_head_of(item, params),
@@ -102,7 +105,8 @@ pub fn centre_head_at(page: &Page, params: &Params, off: u16) -> Option<(u32, u3
     ensures told { result ≡ option_map head_of_centre (centre_at params.now page.now off) }
 
     // Its item is the tuple's spelling.
-    ensures spelled { (l : CentreTuple) → centre_at params.now page.now off ≡ Some l → IsCentre params.now l × (item_at page.now.items off ≡ Some (centre_bytes l)) }
+    ensures spelled { (l : CentreTuple) → centre_at params.now page.now off ≡ Some l → IsCentre params.now l
+        × (item_at page.now.items off ≡ Some (centre_bytes l)) }
 {
     match page.item(off) {
         Some(item) => centre_head_of(item, params),
@@ -114,7 +118,8 @@ pub fn centre_head_at(page: &Page, params: &Params, off: u16) -> Option<(u32, u3
 fn centre_head_of(item: &[u8], params: &Params) -> Option<(u32, u32)>
     requires { IsInRange params.now }
     ensures told { result ≡ option_map head_of_centre (in_whole (centre params.now item.now)) }
-    ensures spelled { (l : CentreTuple) → in_whole (centre params.now item.now) ≡ Some l → IsCentre params.now l × (item.now ≡ centre_bytes l) }
+    ensures spelled { (l : CentreTuple) → in_whole (centre params.now item.now) ≡ Some l → IsCentre params.now l
+        × (item.now ≡ centre_bytes l) }
 {
     centre_head(item, params)
 }

@@ -158,7 +158,8 @@ pub fn place_element(
 }
 
 fn element_behind(page: &mut Page, off: u16, head: &ElementHead, bits: &Bits) -> Option<()>
-    ensures { IsMade (if_so (off == length page.old.items + 1) (added (element_bytes (element_with head.now bits.now)) page.old)) page.old page.new result }
+    ensures { IsMade (if_so (off == length page.old.items + 1) (added (element_bytes (element_with head.now bits.now)) page.old))
+        page.old page.new result }
 {
     let mut buffer = [0; MOST_ITEM];
     let item = &mut buffer[..element_long(bits)];
@@ -190,7 +191,8 @@ pub fn place_links(
 
 fn links_behind(page: &mut Page, off: u16, version: u8, slots: &[Option<Tid>]) -> Option<()>
     requires { length slots.now ≤ MOST_SLOTS }
-    ensures { IsMade (if_so (off == length page.old.items + 1) (added (links_bytes (links_with false version slots.now)) page.old)) page.old page.new result }
+    ensures { IsMade (if_so (off == length page.old.items + 1) (added (links_bytes (links_with false version slots.now)) page.old))
+        page.old page.new result }
 {
     let mut buffer = [0; MOST_ITEM];
     let item = &mut buffer[..links_long(slots)];

@@ -53,7 +53,8 @@ impl ItemChange for NewSlot {
 
     ghost fits = { λ change old. 6 * change.slot + 10 ≤ length old };
 
-    ghost makes = { λ change old new. (l : Links) → old ≡ links_bytes l → new ≡ links_bytes (links_with l.deleted l.version (slice_set l.tids change.slot (Some change.to))) };
+    ghost makes = { λ change old new. (l : Links) → old ≡ links_bytes l
+        → new ≡ links_bytes (links_with l.deleted l.version (slice_set l.tids change.slot (Some change.to))) };
 
     fn change(&self, item: &mut [u8]) {
         set_slot(item, self.slot, Some(self.to));
@@ -154,7 +155,8 @@ impl ItemChange for NewAim {
 
     ghost fits = { λ change old. 8 ≤ length old };
 
-    ghost makes = { λ change old new. (c : CentreTuple) → old ≡ centre_bytes c → new ≡ centre_bytes (centre_with c.first change.aim c.bits) };
+    ghost makes = { λ change old new. (c : CentreTuple) → old ≡ centre_bytes c
+        → new ≡ centre_bytes (centre_with c.first change.aim c.bits) };
 
     fn change(&self, item: &mut [u8]) {
         set_aim(item, self.aim);
@@ -164,7 +166,8 @@ impl ItemChange for NewAim {
 /// Gives the element at an offset another head, and clears its value where the head is deleted.
 pub fn put_head(page: &mut Page, off: u16, head: &ElementHead)
     requires { (e : Element) × (item_at page.old.items off ≡ Some (element_bytes e)) }
-    ensures { (e : Element) → item_at page.old.items off ≡ Some (element_bytes e) → page.new ≡ with_item page.old off (element_bytes (with_head head.now e)) }
+    ensures { (e : Element) → item_at page.old.items off ≡ Some (element_bytes e)
+        → page.new ≡ with_item page.old off (element_bytes (with_head head.now e)) }
 {
     page.change_item(off, &NewHead { head });
 }
@@ -172,7 +175,8 @@ pub fn put_head(page: &mut Page, off: u16, head: &ElementHead)
 /// Puts a place into a slot of the neighbour tuple at an offset.
 pub fn put_slot(page: &mut Page, off: u16, slot: u16, to: Tid)
     requires { (l : Links) × (item_at page.old.items off ≡ Some (links_bytes l)) × slot < length l.tids }
-    ensures { (l : Links) → item_at page.old.items off ≡ Some (links_bytes l) → page.new ≡ with_item page.old off (links_bytes (links_with l.deleted l.version (slice_set l.tids slot (Some to)))) }
+    ensures { (l : Links) → item_at page.old.items off ≡ Some (links_bytes l)
+        → page.new ≡ with_item page.old off (links_bytes (links_with l.deleted l.version (slice_set l.tids slot (Some to)))) }
 {
     page.change_item(off, &NewSlot { slot, to });
 }
@@ -196,7 +200,8 @@ pub fn put_links_over(page: &mut Page, off: u16, version: u8, tids: &[Option<Tid
 
 /// Gives the neighbour tuple at an offset, which is not deleted, a version and as many slots as it has.
 pub fn put_slots(page: &mut Page, off: u16, version: u8, tids: &[Option<Tid>])
-    requires { (l : Links) × (item_at page.old.items off ≡ Some (links_bytes l)) × (length l.tids ≡ length tids.now) × length tids.now < 2 ^ 16 }
+    requires { (l : Links) × (item_at page.old.items off ≡ Some (links_bytes l)) × (length l.tids ≡ length tids.now)
+        × length tids.now < 2 ^ 16 }
     ensures { page.new ≡ with_item page.old off (links_bytes (links_with false version tids.now)) }
 {
     page.change_item(off, &NewSlots { version, tids });
@@ -223,7 +228,8 @@ pub fn put_meta(page: &mut Page, meta: Meta)
 /// Gives the list tuple at an offset another aim.
 pub fn put_aim(page: &mut Page, off: u16, aim: u32)
     requires { (c : CentreTuple) × (item_at page.old.items off ≡ Some (centre_bytes c)) }
-    ensures { (c : CentreTuple) → item_at page.old.items off ≡ Some (centre_bytes c) → page.new ≡ with_item page.old off (centre_bytes (centre_with c.first aim c.bits)) }
+    ensures { (c : CentreTuple) → item_at page.old.items off ≡ Some (centre_bytes c)
+        → page.new ≡ with_item page.old off (centre_bytes (centre_with c.first aim c.bits)) }
 {
     page.change_item(off, &NewAim { aim });
 }

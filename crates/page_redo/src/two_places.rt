@@ -60,7 +60,8 @@ fn may_put_after(
     requires apart { off ≡ list_off → ⊥ }
     requires small { long ≤ MOST_ITEM }
     requires list_small { list_long ≤ MOST_ITEM }
-    ensures { (may_go : Bool) (x y : List ℕ) (after : Content) → length x ≡ long → length y ≡ list_long → put off may_go x page.now ≡ Some after → result ≡ is_some (put list_off list_may_go y after) }
+    ensures { (may_go : Bool) (x y : List ℕ) (after : Content) → length x ≡ long → length y ≡ list_long
+        → put off may_go x page.now ≡ Some after → result ≡ is_some (put list_off list_may_go y after) }
 {
     match item_long(page, off) {
         Some(_) => may_put(page, list_off, list_may_go, list_long, 0, 0),

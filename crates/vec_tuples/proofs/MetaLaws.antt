@@ -3,7 +3,7 @@ use Rattle.std.specs.Prelude.{⊤}
 use Rattle.std.proofs.Common.{◌≡◌, ℕ, ◌*◌, Bool, true, false, cond, eqb, List, [], ◌∷◌, ◌++◌, length, Option, Some, None, refl, sym, ap, ◌∙◌, arith, lit≤, lit<}
 use Rattle.std.specs.Prelude.{slice_index}
 use Rattle.std.specs.Int.{w16, w32, to_le_bytes}
-use Rattle.std.proofs.lemmas.Bool.{eqb-true}
+use Rattle.std.proofs.lemmas.Bool.{eqb-true, eq-eqb}
 use Rattle.vec_names.specs.declared.tid.Tid.{Tid}
 use Rattle.vec_names.specs.declared.params.Kind.{Kind}
 use Rattle.vec_names.specs.declared.params.Kind.TheVariants.{Hnsw, Ivf}
@@ -154,12 +154,12 @@ entry_field Hnsw = optional_place_field
 entry_field Ivf = no_place_field
 
 level_fits : (e : Option Tid) (level : ℕ) → IsLevelOf e level → FitsLevel e level
-level_fits None level is = is
-level_fits (Some at) level is = is
+level_fits None level is = eqb-true level 0 is.0
+level_fits (Some at) level is = is.1
 
 fits_level : (e : Option Tid) (level : ℕ) → FitsLevel e level → IsLevelOf e level
-fits_level None level fits = fits
-fits_level (Some at) level fits = fits
+fits_level None level fits = (eq-eqb level 0 fits, omega (arith, fits))
+fits_level (Some at) level fits = (refl, fits)
 
 abbrev FitsHint : Kind → ℕ → Type 0
 FitsHint Hnsw hint = IsFrom 1 32768 hint

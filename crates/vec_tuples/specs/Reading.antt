@@ -78,7 +78,8 @@ hint_of Ivf = four_bytes_from 0 0
 unfoldable pub meta : Reader Meta
 meta =
     viewed (λ x. record { format = x.1.0; params = x.1.1.0; entry = x.1.1.1.0; level = x.1.1.1.1.0; hint = x.1.1.1.1.1.1 })
-    (four_bytes_from magic magic ⨟ two_bytes_from 1 2 ⨟ and_then params (λ p. and_then (entry_of p.kind) (λ e. level_beside e ⨟ byte_from 0 0 ⨟ hint_of p.kind)))
+    (four_bytes_from magic magic ⨟ two_bytes_from 1 2
+    ⨟ and_then params (λ p. and_then (entry_of p.kind) (λ e. level_beside e ⨟ byte_from 0 0 ⨟ hint_of p.kind)))
 
 -- ---- bit values
 
@@ -158,4 +159,6 @@ is_zero_at bytes i = slice_index bytes i == 0
 -- it is not. The word at 8 is 0 in a list's tuple and a length in an entry.
 unfoldable pub places_at : List ℕ → ℕ
 places_at bytes =
-    if is_zero_at bytes 10 && (is_zero_at bytes 14 && is_zero_at bytes 15) then (if is_zero_at bytes 8 && is_zero_at bytes 9 then 20 else 16) else 80
+    if is_zero_at bytes 10 && (is_zero_at bytes 14 && is_zero_at bytes 15)
+    then (if is_zero_at bytes 8 && is_zero_at bytes 9 then 20 else 16)
+    else 80

@@ -1,5 +1,5 @@
 -- The one spelling of each tuple, field after field. Numbers are little-endian.
-use Rattle.std.specs.Prelude.{◌≡◌, ℕ, zero, suc, ◌+◌, ◌*◌, ◌/◌, ◌≤◌, ◌<◌, ◌^◌, Bool, true, false, List, [], ◌∷◌, ◌++◌, length, replicate, Option, Some, None}
+use Rattle.std.specs.Prelude.{◌≡◌, ℕ, zero, suc, ◌+◌, ◌*◌, ◌/◌, ◌≤◌, ◌<◌, ◌^◌, ◌==◌, Bool, true, false, List, [], ◌∷◌, ◌++◌, length, replicate, Option, Some, None}
 use Rattle.std.specs.List.{flat_map, AllByRecursion}
 use Rattle.std.specs.Int.{w16, w32, to_le_bytes}
 use Rattle.index_sizes.specs.declared.limits.TheConstants.{MOST_BLOCKS, MOST_SLOTS}
@@ -40,12 +40,16 @@ params_bytes p =
 -- 32 bytes
 unfoldable pub meta_bytes : Meta → List ℕ
 meta_bytes m =
-    to_le_bytes w32 magic ++ (to_le_bytes w16 m.format ++ (params_bytes m.params ++ (tid_option_bytes m.entry ++ (m.level ∷ 0 ∷ to_le_bytes w32 m.hint))))
+    to_le_bytes w32 magic
+    ++ (to_le_bytes w16 m.format ++ (params_bytes m.params ++ (tid_option_bytes m.entry ++ (m.level ∷ 0 ∷ to_le_bytes w32 m.hint))))
 
 -- a level stands above 0 only with an entry
+abbrev pub is_level : Option Tid → ℕ → Bool
+is_level None level = level == 0
+is_level (Some at) level = true
+
 abbrev pub IsLevelOf : Option Tid → ℕ → Type 0
-IsLevelOf None level = level ≡ 0
-IsLevelOf (Some at) level = level < 2 ^ 8
+IsLevelOf entry level = (is_level entry level ≡ true) × (level < 2 ^ 8)
 
 -- lists have no entry
 abbrev pub IsEntryOf : Kind → Option Tid → Type 0
@@ -153,7 +157,13 @@ rows_bytes (suc n) [] = heap_id_option_bytes None ++ rows_bytes n []
 rows_bytes (suc n) (id ∷ ids) = heap_id_bytes id ++ rows_bytes n ids
 
 abbrev pub head_with : ℕ → Bool → ℕ → List HeapId → Tid → ElementHead
-head_with level deleted version ids list_at = record { level = level; deleted = deleted; version = version; ids = record { items = ids }; list_at = list_at }
+head_with level deleted version ids list_at = record {
+  level = level;
+  deleted = deleted;
+  version = version;
+  ids = record { items = ids };
+  list_at = list_at;
+}
 
 -- an element is its head and its value
 abbrev pub element_with : ElementHead → List Bool → Element

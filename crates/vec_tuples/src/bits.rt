@@ -1,4 +1,5 @@
 //! Bit values in tuples: the length of the value's bytes, its count of places and its packed places.
+#![tactic(auto, unfolding(crate::specs::Reading::bit_value, crate::specs::Reading::value_of, crate::specs::Reading::clear_places, byte_fields::specs::Reading::field))]
 
 ghost use Rattle.std.specs.Prelude.{◌≡◌, ◌≤◌, ◌+◌, ◌*◌, ◌/◌, ◌++◌, ◌-◌, ◌==◌, not, false, List, Bool, length, drop, take, replicate, IfOk, IsTrue};
 ghost use Rattle.std.specs.List.{list_all};
@@ -21,7 +22,6 @@ pub fn length_word(count: u32) -> u32
 }
 
 /// The packed places of a value of `count` places.
-#[tactic(auto, unfolding(crate::specs::Reading::bit_value))]
 pub fn bit_value(count: u32, bytes: &[u8]) -> Result<(&[u8], &[u8]), Stop>
     requires some { 1 ≤ count }
     requires few { count ≤ MOST_BITS }
@@ -36,7 +36,6 @@ pub fn bit_value(count: u32, bytes: &[u8]) -> Result<(&[u8], &[u8]), Stop>
 }
 
 /// The packed places of an element's value of `count` places; of a deleted element none is set.
-#[tactic(auto, unfolding(crate::specs::Reading::value_of))]
 pub fn value_of(deleted: bool, count: u32, bytes: &[u8]) -> Result<(&[u8], &[u8]), Stop>
     requires some { 1 ≤ count }
     requires few { count ≤ MOST_BITS }
@@ -63,7 +62,6 @@ fn clear_value(count: u32, bytes: &[u8]) -> Result<(&[u8], &[u8]), Stop>
     Ok((places, rest))
 }
 
-#[tactic(auto, unfolding(crate::specs::Reading::clear_places, byte_fields::specs::Reading::field))]
 fn clear_places(count: u32, bytes: &[u8]) -> Result<(&[u8], &[u8]), Stop>
     requires some { 1 ≤ count }
     requires few { count ≤ MOST_BITS }

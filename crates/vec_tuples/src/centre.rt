@@ -1,4 +1,5 @@
 //! The list tuple: a list's chain of blocks and its centre.
+#![tactic(auto, unfolding(crate::specs::Reading::centre, crate::specs::Spelling::centre_bytes))]
 
 ghost use Rattle.std.specs.Prelude.{◌≡◌, ◌≤◌, ◌+◌, ◌/◌, ◌++◌, ◌∷◌, [], length, take, Some, OnOk, OnErr, IfOk, IfErr, IfSome, MatchResult, List, Bool};
 ghost use Rattle.std.specs.Int.{w32, to_le_bytes};
@@ -42,7 +43,8 @@ pub fn read_centre(alloc: Global, bytes: &[u8], params: &Params) -> Result<Centr
     ensures spelled { IfOk result (λ c. IsCentre params.now c × (bytes.now ≡ centre_bytes c)) }
 
     // What is spelled so is read, unless memory runs out.
-    ensures read { (c : CentreTuple) → IsCentre params.now c → bytes.now ≡ centre_bytes c → MatchResult result (λ x. x ≡ c) (λ fault. fault ≡ TupleFault.Memory) }
+    ensures read { (c : CentreTuple) → IsCentre params.now c → bytes.now ≡ centre_bytes c
+        → MatchResult result (λ x. x ≡ c) (λ fault. fault ≡ TupleFault.Memory) }
 
     // The fault that it is, field by field.
     ensures exact { IsReading (centre params.now) bytes.now result }
@@ -74,7 +76,8 @@ pub fn centre_head(bytes: &[u8], params: &Params) -> Option<(u32, u32)>
     requires { IsInRange params.now }
 
     // What it tells is so of a list tuple that the bytes spell.
-    ensures spelled { IfSome result (λ head. (c : CentreTuple) × IsCentre params.now c × (bytes.now ≡ centre_bytes c) × (head ≡ head_of_centre c)) }
+    ensures spelled { IfSome result (λ head. (c : CentreTuple) × IsCentre params.now c × (bytes.now ≡ centre_bytes c)
+        × (head ≡ head_of_centre c)) }
 
     // Each list tuple that the bytes spell is told.
     ensures read { (c : CentreTuple) → IsCentre params.now c → bytes.now ≡ centre_bytes c → result ≡ Some (head_of_centre c) }
@@ -91,7 +94,6 @@ pub fn centre_head(bytes: &[u8], params: &Params) -> Option<(u32, u32)>
     }
 }
 
-#[tactic(auto, unfolding(crate::specs::Reading::centre))]
 fn centre(params: Params, bytes: &[u8]) -> Result<(u32, u32, &[u8], &[u8]), Stop>
     requires some { 1 ≤ params.bits }
     requires few { params.bits ≤ MOST_BITS }
@@ -107,7 +109,6 @@ fn centre(params: Params, bytes: &[u8]) -> Result<(u32, u32, &[u8], &[u8]), Stop
 
 /// Appends the spelling of a list tuple, 20 bytes and the packed places of the centre. The only fault is
 /// `Memory`, and then the bytes are as before.
-#[tactic(auto, unfolding(crate::specs::Spelling::centre_bytes))]
 pub fn write_centre(centre: &CentreTuple, into: &mut Vec<u8>) -> Result<(), TupleFault>
     ensures ok { OnOk result (into.new.items ≡ into.old.items ++ centre_bytes centre.now) }
     ensures err { OnErr result (into.new.items ≡ into.old.items) }
@@ -123,7 +124,8 @@ pub fn write_centre(centre: &CentreTuple, into: &mut Vec<u8>) -> Result<(), Tupl
 /// The bytes before the places.
 fn head(first: u32, aim: u32, count: u32) -> [u8; 20]
     requires { count ≤ MOST_BITS }
-    ensures { result ≡ to_le_bytes w32 first ++ (to_le_bytes w32 aim ++ (0 ∷ 0 ∷ 0 ∷ 0 ∷ to_le_bytes w32 (length_word count) ++ to_le_bytes w32 count)) }
+    ensures { result ≡ to_le_bytes w32 first ++ (to_le_bytes w32 aim
+        ++ (0 ∷ 0 ∷ 0 ∷ 0 ∷ to_le_bytes w32 (length_word count) ++ to_le_bytes w32 count)) }
 {
     let f = first.to_le_bytes();
     let a = aim.to_le_bytes();
@@ -136,7 +138,6 @@ fn head(first: u32, aim: u32, count: u32) -> [u8; 20]
 }
 
 /// Gives the list tuple in these bytes another aim, and changes nothing else. It takes no memory.
-#[tactic(auto, unfolding(crate::specs::Spelling::centre_bytes))]
 pub fn set_aim(bytes: &mut [u8], aim: u32)
     requires { 8 ≤ length bytes.old }
     ensures { (c : CentreTuple) → bytes.old ≡ centre_bytes c → bytes.new ≡ centre_bytes (centre_with c.first aim c.bits) }

@@ -1,4 +1,5 @@
 //! The element tuple of a graph: the rows of an element, the place of its neighbour tuple and its value.
+#![tactic(auto, using(crate::proofs::EachField::packed_long), unfolding(crate::specs::Reading::element, crate::specs::Reading::head, crate::specs::Spelling::element_bytes, crate::specs::Spelling::head_bytes))]
 
 ghost use Rattle.std.specs.Prelude.{◌≡◌, ◌≤◌, ◌+◌, ◌/◌, ◌++◌, length, take, OnOk, OnErr, IfOk, IfErr, IfSome, MatchResult, List, Bool, Option, Some};
 ghost use Rattle.bit_code.specs.Places.{unpacked, Packed};
@@ -66,7 +67,8 @@ pub fn read_element(alloc: Global, bytes: &[u8], params: &Params) -> Result<Elem
     ensures spelled { IfOk result (λ e. IsElement params.now e × (bytes.now ≡ element_bytes e)) }
 
     // What is spelled so is read, unless memory runs out.
-    ensures read { (e : Element) → IsElement params.now e → bytes.now ≡ element_bytes e → MatchResult result (λ x. x ≡ e) (λ fault. fault ≡ TupleFault.Memory) }
+    ensures read { (e : Element) → IsElement params.now e → bytes.now ≡ element_bytes e
+        → MatchResult result (λ x. x ≡ e) (λ fault. fault ≡ TupleFault.Memory) }
 
     // The fault that it is, field by field.
     ensures exact { IsReading (element params.now) bytes.now result }
@@ -118,7 +120,8 @@ pub fn element_head(bytes: &[u8], params: &Params) -> Option<ElementHead>
     requires { IsInRange params.now }
 
     // What it tells is so of an element tuple that the bytes spell.
-    ensures spelled { IfSome result (λ head. (bits : List Bool) × IsElement params.now (element_with head bits) × (bytes.now ≡ element_bytes (element_with head bits))) }
+    ensures spelled { IfSome result (λ head. (bits : List Bool) × IsElement params.now (element_with head bits)
+        × (bytes.now ≡ element_bytes (element_with head bits))) }
 
     // Each element tuple that the bytes spell is told.
     ensures read { (e : Element) → IsElement params.now e → bytes.now ≡ element_bytes e → result ≡ Some (head_of_element e) }
@@ -129,7 +132,6 @@ pub fn element_head(bytes: &[u8], params: &Params) -> Option<ElementHead>
     }
 }
 
-#[tactic(auto, unfolding(crate::specs::Reading::element))]
 fn element_at(params: Params, bytes: &[u8]) -> Result<(ElementHead, &[u8], &[u8]), Stop>
     requires some { 1 ≤ params.bits }
     requires few { params.bits ≤ MOST_BITS }
@@ -141,7 +143,6 @@ fn element_at(params: Params, bytes: &[u8]) -> Result<(ElementHead, &[u8], &[u8]
     Ok((head, places, rest))
 }
 
-#[tactic(auto, unfolding(crate::specs::Reading::head))]
 fn head_at(bytes: &[u8]) -> Result<(ElementHead, &[u8]), Stop>
     ensures { Gives (λ x. (x.0, x.1.now)) result (head bytes.now) }
 {
@@ -164,7 +165,6 @@ fn head_at(bytes: &[u8]) -> Result<(ElementHead, &[u8]), Stop>
 
 /// Appends the spelling of an element tuple, 80 bytes and the packed places. The only fault is `Memory`, and
 /// then the bytes are as before.
-#[tactic(auto, using(crate::proofs::EachField::packed_long), unfolding(crate::specs::Spelling::element_bytes))]
 pub fn write_element(element: &Element, into: &mut Vec<u8>) -> Result<(), TupleFault>
     ensures ok { OnOk result (into.new.items ≡ into.old.items ++ element_bytes element.now) }
     ensures err { OnErr result (into.new.items ≡ into.old.items) }
@@ -189,7 +189,6 @@ pub fn write_element(element: &Element, into: &mut Vec<u8>) -> Result<(), TupleF
 
 /// Writes the spelling of the element tuple of this head and this value over bytes of its length, 80 and the
 /// packed places. It takes no memory.
-#[tactic(auto, using(crate::proofs::EachField::packed_long), unfolding(crate::specs::Spelling::element_bytes))]
 pub fn fill_element(head: &ElementHead, bits: &Bits, into: &mut [u8])
     requires { length into.old ≡ 80 + (length bits.now + 7) / 8 }
     ensures { into.new ≡ element_bytes (element_with head.now bits.now) }
@@ -210,10 +209,10 @@ pub fn fill_element(head: &ElementHead, bits: &Bits, into: &mut [u8])
 
 /// Gives the element tuple in these bytes another head, and clears its value where the head is deleted. It
 /// takes no memory.
-#[tactic(auto, unfolding(crate::specs::Spelling::element_bytes))]
 pub fn set_head(bytes: &mut [u8], head: &ElementHead)
     requires { 80 ≤ length bytes.old }
-    ensures { (e : Element) → bytes.old ≡ element_bytes e → bytes.new ≡ element_bytes (element_with head.now (beside head.now.deleted e.bits)) }
+    ensures { (e : Element) → bytes.old ≡ element_bytes e
+        → bytes.new ≡ element_bytes (element_with head.now (beside head.now.deleted e.bits)) }
 {
     let (front, value) = bytes.split_at_mut(72);
     fill_head(
@@ -228,7 +227,6 @@ pub fn set_head(bytes: &mut [u8], head: &ElementHead)
 }
 
 /// Writes the 72 bytes before the value.
-#[tactic(auto, unfolding(crate::specs::Spelling::head_bytes))]
 fn fill_head(level: u8, deleted: bool, version: u8, ids: &[HeapId], list_at: Tid, into: &mut [u8])
     requires few { length ids.now ≤ 10 }
     requires long { length into.old ≡ 72 }

@@ -1,4 +1,5 @@
 //! The entry tuple of lists: a row of the indexed table with its value.
+#![tactic(auto, using(crate::proofs::EachField::packed_long), unfolding(crate::specs::Reading::entry, crate::specs::Spelling::entry_bytes))]
 
 ghost use Rattle.std.specs.Prelude.{◌≡◌, ◌≤◌, ◌+◌, ◌/◌, ◌++◌, ◌∷◌, [], length, take, OnOk, OnErr, IfOk, IfErr, MatchResult, List, Bool};
 ghost use Rattle.std.specs.Int.{w32, to_le_bytes};
@@ -41,7 +42,8 @@ pub fn read_entry(alloc: Global, bytes: &[u8], params: &Params) -> Result<EntryR
     ensures spelled { IfOk result (λ row. IsEntry params.now row × (bytes.now ≡ entry_bytes row)) }
 
     // What is spelled so is read, unless memory runs out.
-    ensures read { (row : EntryRow) → IsEntry params.now row → bytes.now ≡ entry_bytes row → MatchResult result (λ x. x ≡ row) (λ fault. fault ≡ TupleFault.Memory) }
+    ensures read { (row : EntryRow) → IsEntry params.now row → bytes.now ≡ entry_bytes row
+        → MatchResult result (λ x. x ≡ row) (λ fault. fault ≡ TupleFault.Memory) }
 
     // The fault that it is, field by field.
     ensures exact { IsReading (entry params.now) bytes.now result }
@@ -67,7 +69,6 @@ pub fn read_entry(alloc: Global, bytes: &[u8], params: &Params) -> Result<EntryR
     }
 }
 
-#[tactic(auto, unfolding(crate::specs::Reading::entry))]
 fn entry(params: Params, bytes: &[u8]) -> Result<(HeapId, &[u8], &[u8]), Stop>
     requires some { 1 ≤ params.bits }
     requires few { params.bits ≤ MOST_BITS }
@@ -82,7 +83,6 @@ fn entry(params: Params, bytes: &[u8]) -> Result<(HeapId, &[u8], &[u8]), Stop>
 
 /// Appends the spelling of an entry tuple, 16 bytes and the packed places. The only fault is `Memory`, and
 /// then the bytes are as before.
-#[tactic(auto, using(crate::proofs::EachField::packed_long), unfolding(crate::specs::Spelling::entry_bytes))]
 pub fn write_entry(row: &EntryRow, into: &mut Vec<u8>) -> Result<(), TupleFault>
     ensures ok { OnOk result (into.new.items ≡ into.old.items ++ entry_bytes row.now) }
     ensures err { OnErr result (into.new.items ≡ into.old.items) }
@@ -96,7 +96,6 @@ pub fn write_entry(row: &EntryRow, into: &mut Vec<u8>) -> Result<(), TupleFault>
 }
 
 /// Writes the spelling of an entry tuple over bytes of its length. It takes no memory.
-#[tactic(auto, using(crate::proofs::EachField::packed_long), unfolding(crate::specs::Spelling::entry_bytes))]
 pub fn fill_entry(id: HeapId, bits: &Bits, into: &mut [u8])
     requires { length into.old ≡ 16 + (length bits.now + 7) / 8 }
     ensures { into.new ≡ entry_bytes (row_with id bits.now) }

@@ -1,4 +1,5 @@
 //! A neighbour tuple written over bytes, and looked at and changed where it stands, with no memory.
+#![tactic(auto, unfolding(crate::specs::Spelling::links_bytes, crate::specs::Reading::links))]
 
 ghost use Rattle.std.specs.Prelude.{◌≡◌, ◌≤◌, ◌<◌, ◌+◌, ◌*◌, ◌^◌, ◌++◌, length, slice_get, slice_set, Option, Some, IfSome};
 ghost use Rattle.std.specs.List.{flat_map};
@@ -17,7 +18,6 @@ use byte_fields::{Stop, byte_from};
 use vec_names::{Params, Tid};
 
 /// Writes the spelling of a neighbour tuple over bytes of its length, 4 and 6 for each slot. It takes no memory.
-#[tactic(auto, unfolding(crate::specs::Spelling::links_bytes))]
 pub fn fill_links(deleted: bool, version: u8, tids: &[Option<Tid>], into: &mut [u8])
     requires few { length tids.now < 2 ^ 16 }
     requires long { length into.old ≡ 4 + 6 * length tids.now }
@@ -82,7 +82,6 @@ pub fn links_head(bytes: &[u8], params: &Params) -> Option<(bool, u8, u16)>
     }
 }
 
-#[tactic(auto, unfolding(crate::specs::Reading::links))]
 fn head_at(params: Params, bytes: &[u8]) -> Result<(bool, u8, u16, &[u8]), Stop>
     ensures { Passes (λ x. ((x.0, x.1, x.2), x.3.now)) head_of_links result (links params bytes.now) }
 {

@@ -1,4 +1,5 @@
 //! The neighbour tuple of a graph's element: the places of its neighbours, layer by layer.
+#![tactic(auto, unfolding(crate::specs::Reading::links, crate::specs::Spelling::links_bytes))]
 
 ghost use Rattle.std.specs.Prelude.{◌≡◌, ◌≤◌, ◌<◌, ◌^◌, ◌++◌, ◌∷◌, [], length, OnOk, OnErr, IfOk, IfErr, MatchResult};
 ghost use Rattle.std.specs.Int.{w16, to_le_bytes};
@@ -40,7 +41,8 @@ pub fn read_list(alloc: Global, bytes: &[u8], params: &Params) -> Result<Links, 
     ensures spelled { IfOk result (λ l. IsLinks params.now l × (bytes.now ≡ links_bytes l)) }
 
     // What is spelled so is read, unless memory runs out.
-    ensures read { (l : Links) → IsLinks params.now l → bytes.now ≡ links_bytes l → MatchResult result (λ x. x ≡ l) (λ fault. fault ≡ TupleFault.Memory) }
+    ensures read { (l : Links) → IsLinks params.now l → bytes.now ≡ links_bytes l
+        → MatchResult result (λ x. x ≡ l) (λ fault. fault ≡ TupleFault.Memory) }
 
     // The fault that it is, field by field.
     ensures exact { IsReading (links params.now) bytes.now result }
@@ -64,7 +66,6 @@ pub fn read_list(alloc: Global, bytes: &[u8], params: &Params) -> Result<Links, 
     }
 }
 
-#[tactic(auto, unfolding(crate::specs::Reading::links))]
 fn links_at(alloc: Global, params: Params, bytes: &[u8]) -> Result<(Links, &[u8]), Halt>
     ensures { GivesOr (λ x. (x.0, x.1.now)) result (links params bytes.now) }
 {
@@ -84,7 +85,6 @@ fn links_at(alloc: Global, params: Params, bytes: &[u8]) -> Result<(Links, &[u8]
 
 /// Appends the spelling of a neighbour tuple, 4 bytes and 6 for each slot. The only fault is `Memory`, and
 /// then the bytes are as before.
-#[tactic(auto, unfolding(crate::specs::Spelling::links_bytes))]
 pub fn write_list(links: &Links, into: &mut Vec<u8>) -> Result<(), TupleFault>
     requires { length links.now.tids < 2 ^ 16 }
     ensures ok { OnOk result (into.new.items ≡ into.old.items ++ links_bytes links.now) }

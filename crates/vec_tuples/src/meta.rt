@@ -1,4 +1,5 @@
 //! The meta tuple, the only item of block 0: what the index is.
+#![tactic(auto, unfolding(crate::specs::Reading::meta, crate::specs::Reading::entry_of, crate::specs::Reading::hint_of, crate::specs::Spelling::meta_bytes))]
 
 ghost use Rattle.std.specs.Prelude.{◌≡◌, ◌++◌, length, OnOk, OnErr, IfOk, IfErr, MatchResult};
 ghost use Rattle.vec_tuples.specs.Spelling.{meta_bytes, kind_byte, ops_byte, IsMeta};
@@ -68,7 +69,6 @@ pub fn read_meta(bytes: &[u8]) -> Result<Meta, TupleFault>
     }
 }
 
-#[tactic(auto, unfolding(crate::specs::Reading::meta))]
 fn meta_tuple(bytes: &[u8]) -> Result<(Meta, &[u8]), Stop>
     ensures { Gives (λ x. (x.0, x.1.now)) result (meta bytes.now) }
 {
@@ -90,7 +90,6 @@ fn meta_tuple(bytes: &[u8]) -> Result<(Meta, &[u8]), Stop>
 }
 
 /// Lists have no entry.
-#[tactic(auto, unfolding(crate::specs::Reading::entry_of))]
 fn entry_of(kind: Kind, bytes: &[u8]) -> Result<(Option<Tid>, &[u8]), Stop>
     ensures { Gives (λ x. (x.0, x.1.now)) result (entry_of kind bytes.now) }
 {
@@ -100,7 +99,6 @@ fn entry_of(kind: Kind, bytes: &[u8]) -> Result<(Option<Tid>, &[u8]), Stop>
     }
 }
 
-#[tactic(auto, unfolding(crate::specs::Reading::hint_of))]
 fn hint_of(kind: Kind, bytes: &[u8]) -> Result<(u32, &[u8]), Stop>
     ensures { Gives (λ x. (x.0, x.1.now)) result (hint_of kind bytes.now) }
 {
@@ -131,7 +129,6 @@ pub fn fill_meta(meta: &Meta, into: &mut [u8])
     into.copy_from_slice(&spelled(*meta));
 }
 
-#[tactic(auto, unfolding(crate::specs::Spelling::meta_bytes))]
 fn spelled(meta: Meta) -> [u8; 32]
     ensures { result ≡ meta_bytes meta }
 {

@@ -1,4 +1,5 @@
 //! The fields of an index's parameters, each in the range that those before it leave.
+#![tactic(auto, unfolding(crate::specs::Reading::params, crate::specs::Reading::kind, byte_fields::specs::Reading::field, crate::specs::Reading::kind_in, crate::specs::Reading::ops_of, crate::specs::Reading::ops_in, crate::specs::Reading::m_of, crate::specs::Reading::ef_of, crate::specs::Reading::lists_of))]
 
 ghost use Rattle.std.specs.Prelude.{◌≡◌, ◌≤◌, IfOk};
 ghost use Rattle.byte_fields.specs.Answers.{Gives};
@@ -8,7 +9,6 @@ use byte_fields::{Stop, four_bytes_from, two_bytes_from};
 use index_sizes::{MOST_BITS, MOST_BLOCKS};
 use vec_names::{Kind, Ops, Params};
 
-#[tactic(auto, unfolding(crate::specs::Reading::params))]
 pub fn params(bytes: &[u8]) -> Result<(Params, &[u8]), Stop>
     ensures { Gives (λ x. (x.0, x.1.now)) result (params bytes.now) }
 {
@@ -29,7 +29,6 @@ pub fn params(bytes: &[u8]) -> Result<(Params, &[u8]), Stop>
     Ok((params, rest))
 }
 
-#[tactic(auto, unfolding(crate::specs::Reading::kind, byte_fields::specs::Reading::field, crate::specs::Reading::kind_in))]
 fn kind(bytes: &[u8]) -> Result<(Kind, &[u8]), Stop>
     ensures { Gives (λ x. (x.0, x.1.now)) result (kind bytes.now) }
 {
@@ -44,7 +43,6 @@ fn kind(bytes: &[u8]) -> Result<(Kind, &[u8]), Stop>
 }
 
 /// Lists have the Hamming distance alone.
-#[tactic(auto, unfolding(crate::specs::Reading::ops_of, byte_fields::specs::Reading::field, crate::specs::Reading::ops_in))]
 fn ops_of(kind: Kind, bytes: &[u8]) -> Result<(Ops, &[u8]), Stop>
     ensures { Gives (λ x. (x.0, x.1.now)) result (ops_of kind bytes.now) }
 {
@@ -58,7 +56,6 @@ fn ops_of(kind: Kind, bytes: &[u8]) -> Result<(Ops, &[u8]), Stop>
     }
 }
 
-#[tactic(auto, unfolding(crate::specs::Reading::m_of))]
 fn m_of(kind: Kind, bytes: &[u8]) -> Result<(u16, &[u8]), Stop>
     ensures reads { Gives (λ x. (x.0, x.1.now)) result (m_of kind bytes.now) }
     ensures range { IfOk result (λ x. x.0 ≤ 100) }
@@ -69,7 +66,6 @@ fn m_of(kind: Kind, bytes: &[u8]) -> Result<(u16, &[u8]), Stop>
     }
 }
 
-#[tactic(auto, unfolding(crate::specs::Reading::ef_of))]
 fn ef_of(kind: Kind, m: u16, bytes: &[u8]) -> Result<(u16, &[u8]), Stop>
     requires { m ≤ 100 }
     ensures { Gives (λ x. (x.0, x.1.now)) result (ef_of kind m bytes.now) }
@@ -80,7 +76,6 @@ fn ef_of(kind: Kind, m: u16, bytes: &[u8]) -> Result<(u16, &[u8]), Stop>
     }
 }
 
-#[tactic(auto, unfolding(crate::specs::Reading::lists_of))]
 fn lists_of(kind: Kind, bytes: &[u8]) -> Result<(u32, &[u8]), Stop>
     ensures { Gives (λ x. (x.0, x.1.now)) result (lists_of kind bytes.now) }
 {

@@ -1,4 +1,5 @@
 //! The ten places of an element's rows, read from the front of the bytes and written over bytes.
+#![tactic(auto, unfolding(crate::specs::Reading::row_of, crate::specs::Reading::optional_row, byte_fields::specs::Reading::field, crate::specs::Reading::no_row, byte_fields::specs::Reading::none_alone))]
 
 ghost use Rattle.std.specs.Prelude.{◌≡◌, ◌≤◌, ◌<◌, ◌++◌, length, slice_get};
 ghost use Rattle.std.specs.Option.{option_to_list, is_none};
@@ -43,7 +44,6 @@ fn keep(ids: &mut ArrayVec<HeapId, 10>, row: Option<HeapId>) -> bool
     }
 }
 
-#[tactic(auto, unfolding(crate::specs::Reading::row_of))]
 fn row_of(closed: bool, bytes: &[u8]) -> Result<(Option<HeapId>, &[u8]), Stop>
     ensures { Gives (λ x. (x.0, x.1.now)) result (row_of closed bytes.now) }
 {
@@ -55,7 +55,6 @@ fn row_of(closed: bool, bytes: &[u8]) -> Result<(Option<HeapId>, &[u8]), Stop>
 }
 
 /// A row, or that there is none.
-#[tactic(auto, unfolding(crate::specs::Reading::optional_row, byte_fields::specs::Reading::field))]
 fn optional_row(bytes: &[u8]) -> Result<(Option<HeapId>, &[u8]), Stop>
     ensures { Gives (λ x. (x.0, x.1.now)) result (optional_row bytes.now) }
 {
@@ -69,7 +68,6 @@ fn optional_row(bytes: &[u8]) -> Result<(Option<HeapId>, &[u8]), Stop>
 }
 
 /// That there is no row.
-#[tactic(auto, unfolding(crate::specs::Reading::no_row, byte_fields::specs::Reading::none_alone, byte_fields::specs::Reading::field))]
 fn no_row(bytes: &[u8]) -> Result<(Option<HeapId>, &[u8]), Stop>
     ensures { Gives (λ x. (x.0, x.1.now)) result (no_row bytes.now) }
 {

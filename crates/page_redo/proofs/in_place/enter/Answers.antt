@@ -1,7 +1,7 @@
 use Rattle.std.proofs.Common.{◌≡◌, true, sym, arith, rules}
 use Rattle.page_redo.specs.PageTuples.{is_graph}
-use Rattle.page_redo.specs.PageChanges.{is_level}
-use Rattle.page_redo.proofs.MetaChanges.{entry_of_graph, level_of_entry}
+use Rattle.vec_tuples.specs.Spelling.{is_level}
+use Rattle.page_redo.proofs.MetaChanges.{entry_of_graph}
 use Rattle.page_redo.proofs.in_place.enter.Goals as goal
 
 pub put_meta-requires-clause-meta : goal.put_meta-requires-clause-meta
@@ -10,4 +10,4 @@ put_meta-requires-clause-meta c =
     let s = (c.in_ok-meta.ensures.spelled m (sym c.in_ok-meta.ensures.told)).0 in
     let graph : is_graph m.params.kind ≡ true = search rules in
     let level : is_level c.args.to c.args.level ≡ true = search rules in
-    record { format_low = s.format_low; format_high = s.format_high; params = s.params; entry = entry_of_graph m.params.kind c.args.to graph; level = level_of_entry c.args.to c.args.level level (omega arith); hint = s.hint }
+    record { format_low = s.format_low; format_high = s.format_high; params = s.params; entry = entry_of_graph m.params.kind c.args.to graph; level = (level, omega arith); hint = s.hint }

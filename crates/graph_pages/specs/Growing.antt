@@ -1,0 +1,39 @@
+-- Pages of an index that grows: the fresh pages that an event makes, and redo of an event on all blocks that it touches.
+use Rattle.std.specs.Prelude.{◌≡◌, ℕ, ◌+◌, ◌-◌, max, List, [], ◌++◌, length, replicate, slice_get, Option, Some, None, Contains}
+use Rattle.vec_names.specs.declared.params.Params.{Params}
+use Rattle.vec_history.specs.declared.event.Event.{Event}
+use Rattle.vec_history.specs.declared.event.Event.TheVariants.{Put, IvfGrow}
+use Rattle.page_bytes.specs.declared.kind.PageKind.{PageKind}
+use Rattle.page_bytes.specs.declared.kind.PageKind.TheVariants.{Hnsw, IvfEntries}
+use Rattle.page_bytes.specs.Content.{Content}
+use Rattle.page_redo.specs.Redo.{touched, redone}
+use Rattle.graph_pages.specs.Effects.{AreRedone}
+
+-- a page without items, as it is made
+abbrev pub fresh_page : PageKind → Content
+fresh_page kind = record { kind = kind; next = None; number = 0; items = [] }
+
+-- how many blocks there are with those on which an event puts something new
+abbrev pub blocks_after : Event → ℕ → ℕ
+blocks_after (Put at list_at version level id bits lists) count = max count (max (at.block + 1) (list_at.block + 1))
+blocks_after (IvfGrow list last new id bits) count = max count (new + 1)
+blocks_after _ count = count
+
+abbrev pub new_kind : Event → PageKind
+new_kind (IvfGrow list last new id bits) = IvfEntries
+new_kind _ = Hnsw
+
+-- the pages with a fresh one on each new block
+abbrev pub extended : Event → List Content → List Content
+extended event pages = pages ++ replicate (blocks_after event (length pages) - length pages) (fresh_page (new_kind event))
+
+-- The event fits the page of each block that it touches, whatever the number and the version to wrap at.
+abbrev pub FitsEach : List Content → Params → Event → Type 0
+FitsEach pages params event =
+    (wrap number block : ℕ) → Contains (touched event params) block
+    → (page : Content) × (slice_get (extended event pages) block ≡ Some page)
+    × (after : Content) × (redone event params wrap number block page ≡ Some after)
+
+-- The pages after an event, with each block that it touches redone, new ones among them.
+abbrev pub AreAllRedone : Params → ℕ → ℕ → Event → List Content → List Content → Type 0
+AreAllRedone params wrap number event pages after = AreRedone params wrap number event (extended event pages) after
