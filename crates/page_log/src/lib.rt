@@ -1,0 +1,12 @@
+//! The log: epochs of base images and of batches of events, each behind a seal.
+#![tactic(auto)]
+
+mod batches;
+mod events;
+mod head;
+mod limits;
+
+pub use head::Head;
+
+#[cfg(test)]
+mod tests;

@@ -1,0 +1,13 @@
+//! The places and sizes of a log area.
+
+/// The byte that an open seal is. A closed one is any other.
+pub const OPEN: u8 = 0xA5;
+
+/// The bytes of a header, whose last one is the epoch's seal.
+pub const HEAD: usize = 40;
+
+/// The bytes of a base image: a block's number and its page.
+pub const IMAGE: usize = 8_196;
+
+/// The most bytes that the events of an epoch may take, each with 5 bytes more than its own.
+pub const MOST_USED: u64 = 268_435_456;
