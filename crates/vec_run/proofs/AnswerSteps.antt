@@ -2,24 +2,20 @@
 use Rattle.std.proofs.Common.{◌≡◌, sym, ap, ◌∙◌, ℕ, ◌+◌, ◌<◌, ◌≤◌, List, [], ◌∷◌, ◌++◌, length, get_or, take, append_assoc}
 use Rattle.std.specs.Prelude.{Bool}
 use Rattle.std.specs.List.{filter_map, flat_map, cons_option}
-use Rattle.std.specs.Cmp.{IsTotalOrder, IsStrictWeakOrder, nat_cmp_total}
+use Rattle.std.specs.Cmp.{IsStrictWeakOrder}
 use Rattle.std.specs.List.Sorted.{IsSortedBy, IsStableBy}
-use Rattle.std.proofs.lemmas.Cmp.{on_total, then_total}
 use Rattle.std.proofs.lemmas.List.{take_more, take_all, append-nil}
 use Rattle.std.proofs.lemmas.List.Sorted.{ranks_by}
 use Rattle.std.proofs.lemmas.List.Elements.{filter_map-append}
 use Rattle.std.proofs.lemmas.Grind.{flat_map-append}
-use Rattle.bit_dist.specs.Orders.{dist_cmp_total}
+use Rattle.bit_dist.specs.Hits.{Hit, hit_cmp_total}
 use Rattle.list_values.specs.Ranking.{ranked}
 use Rattle.list_values.proofs.Ranks.{ranked_is}
 use Rattle.vec_run.specs.declared.command.Command.{Command}
-use Rattle.vec_run.specs.Replies.{Hit, hit_cmp, is_nearer, hit_with, hit_line, nearest}
-
-hits_total : IsTotalOrder hit_cmp
-hits_total = then_total (on_total (λ (h : Hit). h.0) dist_cmp_total) (then_total (on_total (λ (h : Hit). h.1.block) nat_cmp_total) (on_total (λ (h : Hit). h.1.off) nat_cmp_total))
+use Rattle.vec_run.specs.Replies.{is_nearer, hit_with, hit_line, nearest}
 
 nearer_ranks : IsStrictWeakOrder is_nearer
-nearer_ranks = ranks_by hits_total (λ (h : Hit). h)
+nearer_ranks = ranks_by hit_cmp_total (λ (h : Hit). h)
 
 -- what a stable sort of the hits gives
 pub nearest_is : (value : List Bool) (above : List Command) (hits sorted : List Hit) → hits ≡ filter_map (hit_with value) above → IsSortedBy is_nearer sorted → IsStableBy is_nearer hits sorted → sorted ≡ nearest value above

@@ -1,22 +1,13 @@
 -- What is written for the commands of `exact`.
 use Rattle.std.specs.Prelude.{ℕ, Bool, Option, Some, None, List, [], ◌∷◌, ◌++◌, length, take, drop, codes, decimal}
 use Rattle.std.specs.List.{filter_map, flat_map}
-use Rattle.std.specs.declared.cmp.Ordering.{Ordering}
-use Rattle.std.specs.Ordering.{nat_cmp, ordering_then, is_lt}
+use Rattle.std.specs.Ordering.{is_lt}
 use Rattle.vec_names.specs.declared.heap_id.HeapId.{HeapId}
-use Rattle.bit_dist.specs.declared.dist.Dist.{Dist}
-use Rattle.bit_dist.specs.Distances.{hamming_of, dist_cmp}
+use Rattle.bit_dist.specs.Distances.{hamming_of}
+use Rattle.bit_dist.specs.Hits.{Hit, hit_cmp}
 use Rattle.list_values.specs.Ranking.{ranked}
 use Rattle.vec_run.specs.declared.command.Command.{Command}
 use Rattle.vec_run.specs.declared.command.Command.TheVariants.{Row, Query}
-
--- a row's distance and its id
-abbrev pub Hit : Type 0
-Hit = Dist × HeapId
-
--- by distance, then by block, then by offset
-abbrev pub hit_cmp : Hit → Hit → Ordering
-hit_cmp a b = ordering_then (dist_cmp a.0 b.0) (ordering_then (nat_cmp a.1.block b.1.block) (nat_cmp a.1.off b.1.off))
 
 abbrev pub is_nearer : Hit → Hit → Bool
 is_nearer a b = is_lt (hit_cmp a b)
