@@ -23,3 +23,5 @@ pub mod RoleFits
 pub mod EventFits
 pub mod StandingShape
 pub mod FreshPages
+pub mod RedoneOnce
+pub mod MarkFits

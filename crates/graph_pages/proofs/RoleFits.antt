@@ -84,7 +84,7 @@ module _ (pages : List Content) (g : Graph) (all : All IsPage pages) (s : Stands
           some_is x r.item (sym is ∙ ap (slice_get r.page.items) here ∙ r.is)
 
   -- a tuple of a node stands on a page of a graph
-  tuple_there : {A : Type 0} (f : Reader A) (at : Tid) (v : A) → in_whole (f (meta_bytes s.meta)) ≡ None → read_in f pages at ≡ Some v
+  pub tuple_there : {A : Type 0} (f : Reader A) (at : Tid) (v : A) → in_whole (f (meta_bytes s.meta)) ≡ None → read_in f pages at ≡ Some v
       → (c : Content) × (slice_get pages at.block ≡ Some c) × (is_graph_page c.kind ≡ true) × (read_at f c at.off ≡ Some v)
   tuple_there f at v other is =
       let x = then_is (λ x. in_whole (f x)) (item_in pages at) v is in

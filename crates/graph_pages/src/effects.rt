@@ -6,6 +6,8 @@
 ghost use Rattle.std.specs.Prelude.{◌≡◌, ◌≤◌, ◌<◌, ◌+◌, ◌++◌, ℕ, List, Option, Some, slice_get, replicate, All};
 ghost use Rattle.vec_names.specs.declared.tid.Tid.{Tid as Place};
 ghost use Rattle.vec_names.specs.declared.heap_id.HeapId.{HeapId};
+ghost use Rattle.vec_names.specs.declared.params.Params.{Params as AnyParams};
+ghost use Rattle.vec_history.specs.declared.event.Event.{Event as Events};
 ghost use Rattle.vec_history.specs.declared.event.Event.TheVariants.{Join, Link, Relist, Drop, Mark, Entry, Hint};
 ghost use Rattle.page_bytes.specs.Content.{Content, IsPage};
 ghost use Rattle.vec_graph.specs.declared.node.Node.{Node};
@@ -17,6 +19,12 @@ ghost use Rattle.graph_pages.specs.Effects.{RedoIsEffect, AreRedone};
 ghost use Rattle.graph_pages.specs.Growing.{fresh_page};
 
 use page_bytes::PageKind;
+
+/// A law, and no work. Redo of an event gives just one list of pages.
+pub fn law_once()
+    ensures { (params : AnyParams) (wrap number : ℕ) (event : Events) (pages after again : List Content)
+        → AreRedone params wrap number event pages after → AreRedone params wrap number event pages again → after ≡ again }
+{}
 
 /// A law, and no work. With fresh pages behind them, pages stand for the same graph, which has more blocks.
 pub fn law_fresh()

@@ -1,20 +1,28 @@
-//! That redo takes an event which changes one tuple of a graph, on the pages that stand for that graph: laws, and no work.
+//! That redo takes an event which changes tuples of a graph, on the pages that stand for that graph: laws, and no work.
 //!
-//! An event fits where the block that it touches has a page, and redo makes another page of that one. What a law asks is what
+//! An event fits where each block that it touches has a page, and redo makes another page of that one. What a law asks is what
 //! the rules ask of the node in the graph, as far as redo tests it; of the hint redo asks that it is at most 32,768.
 
 ghost use Rattle.std.specs.Prelude.{◌≡◌, ◌≤◌, ◌<◌, ◌^◌, ℕ, List, All, Option, None, length};
 ghost use Rattle.vec_names.specs.declared.tid.Tid.{Tid as Place};
 ghost use Rattle.vec_names.specs.declared.heap_id.HeapId.{HeapId};
-ghost use Rattle.vec_history.specs.declared.event.Event.TheVariants.{Join, Link, Relist, Drop, Entry, Hint};
+ghost use Rattle.vec_history.specs.declared.event.Event.TheVariants.{Join, Link, Relist, Drop, Mark, Entry, Hint};
 ghost use Rattle.page_bytes.specs.Content.{Content, IsPage};
 ghost use Rattle.vec_graph.specs.declared.node.Node.{Node};
 ghost use Rattle.vec_graph.specs.declared.graph.Graph.{Graph};
 ghost use Rattle.vec_graph.specs.Rules.{IsThere};
 ghost use Rattle.graph_pages.specs.Standing.{Stands};
 ghost use Rattle.graph_pages.specs.Fitting.{Fits};
+ghost use Rattle.graph_pages.specs.Growing.{FitsEach};
 
 use index_sizes::MOST_BLOCKS;
+
+/// A law, and no work. A node's deletion fits the pages of its element and of its neighbour tuple, where the node at the place is of
+/// the named version and is not deleted, and the neighbour tuple is the node's.
+pub fn law_mark_fits()
+    ensures { (pages : List Content) (g : Graph) (at list_at : Place) (version : ℕ) (n : Node) → All IsPage pages → Stands pages g
+        → IsThere g at version n → n.list_at ≡ list_at → FitsEach pages g.params (Mark at list_at version) }
+{}
 
 /// A law, and no work. Another hint fits, where it is a block from 1 to 32,768.
 pub fn law_hint_fits()

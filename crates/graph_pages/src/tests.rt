@@ -2,8 +2,8 @@
 
 use crate::{
     GraphFault, graph_of, law_drop, law_drop_fits, law_entry, law_entry_fits, law_fresh, law_hint,
-    law_hint_fits, law_join, law_join_fits, law_link, law_link_fits, law_mark, law_relist,
-    law_relist_fits, law_standing,
+    law_hint_fits, law_join, law_join_fits, law_link, law_link_fits, law_mark, law_mark_fits,
+    law_once, law_relist, law_relist_fits, law_standing,
 };
 use bit_code::read_bits;
 use page_bytes::{Page, PageKind};
@@ -387,6 +387,7 @@ fn redo_is_the_effect_on_the_graph(rt: HostRuntime) -> Result<(), Fail> {
 fn laws_are_called(_rt: HostRuntime) -> Result<(), Fail> {
     law_standing();
     law_fresh();
+    law_once();
     law_hint();
     law_entry();
     law_link();
@@ -404,6 +405,7 @@ fn fits_are_called(_rt: HostRuntime) -> Result<(), Fail> {
     law_join_fits();
     law_drop_fits();
     law_link_fits();
+    law_mark_fits();
     law_relist_fits();
     Ok(())
 }
