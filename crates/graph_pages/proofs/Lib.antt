@@ -25,3 +25,4 @@ pub mod StandingShape
 pub mod FreshPages
 pub mod RedoneOnce
 pub mod MarkFits
+pub mod OneBlock

@@ -3,7 +3,6 @@ use Rattle.std.proofs.Common.{◌≡◌, ℕ, zero, suc, ◌-◌, ◌≤◌, ◌
 use Rattle.std.specs.Prelude.{slice_get, All, Contains}
 use Rattle.std.specs.Option.{option_map, option_and_then}
 use Rattle.std.proofs.lemmas.Bool.{and_from, eq-eqb, eqb-true}
-use Rattle.std.proofs.lemmas.List.{append-nil}
 use Rattle.index_sizes.specs.Sizes.{next_version}
 use Rattle.byte_fields.proofs.EachField.{some_is}
 use Rattle.vec_names.specs.declared.tid.Tid.{Tid}
@@ -24,10 +23,11 @@ use Rattle.page_redo.specs.PageChanges.{PageChange, on_graph, is_current, marked
 use Rattle.page_redo.specs.Redo.{at_two, numbered}
 use Rattle.page_redo.proofs.Pairs.{mark_pair}
 use Rattle.graph_pages.specs.Standing.{element_in, links_in, node_with as made_of, Stands}
-use Rattle.graph_pages.specs.Growing.{fresh_page, extended, FitsEach}
+use Rattle.graph_pages.specs.Growing.{fresh_page}
+use Rattle.graph_pages.specs.Fitting.{FitsEach}
 use Rattle.graph_pages.proofs.Given.{then_is}
 use Rattle.graph_pages.proofs.KindsApart.{meta_is_no_element, meta_is_no_list, element_is_no_list}
-use Rattle.graph_pages.proofs.RoleFits.{of_graph_kind, tuple_there, node_there, list_alike}
+use Rattle.graph_pages.proofs.RoleFits.{of_graph_kind, no_more, tuple_there, node_there, list_alike}
 
 -- ---- an event with two places, on one block or on two
 
@@ -51,11 +51,6 @@ two_offsets p c off list_off e l element_is list_is same =
     let none : links_at p c off ≡ None = ap (λ o. option_and_then (λ x. in_whole (links p x)) o) x.1 ∙ element_is_no_list p x.0 e x.2 in
     let there : links_at p c off ≡ Some l = ap (links_at p c) same ∙ list_is in
     absurd cc
-
-no_more : (pages : List Content) (v : Content) → pages ++ replicate (length pages - length pages) v ≡ pages
-no_more pages v =
-    let none : length pages - length pages ≡ 0 = omega arith in
-    ap (λ n. pages ++ replicate n v) none ∙ append-nil pages
 
 -- a block that is touched is one of the two
 not_touched : (a b block : ℕ) → (a == block) ≡ false → (b == block) ≡ false → Contains (a ∷ b ∷ []) block → ⊥

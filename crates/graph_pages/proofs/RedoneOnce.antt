@@ -11,7 +11,7 @@ use Rattle.page_bytes.specs.Content.{Content}
 use Rattle.page_redo.specs.Redo.{touched}
 use Rattle.graph_pages.specs.Effects.{AreRedone}
 
-same_all : {X : Type 0} (xs ys : List X) → ((i : ℕ) → slice_get xs i ≡ slice_get ys i) → xs ≡ ys
+pub same_all : {X : Type 0} (xs ys : List X) → ((i : ℕ) → slice_get xs i ≡ slice_get ys i) → xs ≡ ys
 same_all [] [] same = refl
 same_all [] (y ∷ ys) same = absurd (none-some y (same 0))
 same_all (x ∷ xs) [] same = absurd (none-some x (sym (same 0)))

@@ -3,7 +3,7 @@
 //! Redo itself tests versions, deleted states, and the numbers of ids and slots. What a law asks besides is what an event that
 //! the rules allow gives.
 
-ghost use Rattle.std.specs.Prelude.{◌≡◌, ◌≤◌, ◌<◌, ◌+◌, ◌++◌, ℕ, List, Option, Some, slice_get, replicate, All};
+ghost use Rattle.std.specs.Prelude.{◌≡◌, ◌≤◌, ◌<◌, ◌+◌, ◌++◌, ◌∷◌, [], ℕ, List, length, Option, Some, slice_get, replicate, All};
 ghost use Rattle.vec_names.specs.declared.tid.Tid.{Tid as Place};
 ghost use Rattle.vec_names.specs.declared.heap_id.HeapId.{HeapId};
 ghost use Rattle.vec_names.specs.declared.params.Params.{Params as AnyParams};
@@ -14,11 +14,20 @@ ghost use Rattle.vec_graph.specs.declared.node.Node.{Node};
 ghost use Rattle.vec_graph.specs.declared.graph.Graph.{Graph};
 ghost use Rattle.vec_graph.specs.Graph.{node_at, HasLevel};
 ghost use Rattle.vec_graph.specs.Effect.{effect};
+ghost use Rattle.page_redo.specs.Redo.{touched};
 ghost use Rattle.graph_pages.specs.Standing.{Stands};
 ghost use Rattle.graph_pages.specs.Effects.{RedoIsEffect, AreRedone};
 ghost use Rattle.graph_pages.specs.Growing.{fresh_page};
 
 use page_bytes::PageKind;
+
+/// A law, and no work. Of an event that touches one block, which has a page, the pages after redo stand for the graph after it, where
+/// its redo is its effect.
+pub fn law_one_block()
+    ensures { (pages after : List Content) (g : Graph) (event : Events) (wrap number block : ℕ) → All IsPage pages → Stands pages g
+        → touched event g.params ≡ block ∷ [] → block < length pages → RedoIsEffect pages g event
+        → AreRedone g.params wrap number event pages after → Stands after (effect wrap event g) }
+{}
 
 /// A law, and no work. Redo of an event gives just one list of pages.
 pub fn law_once()
