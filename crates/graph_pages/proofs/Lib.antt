@@ -26,3 +26,4 @@ pub mod FreshPages
 pub mod RedoneOnce
 pub mod MarkFits
 pub mod OneBlock
+pub mod PutOldEffect
