@@ -23,3 +23,7 @@ pub mod RoleFits
 pub mod EventFits
 pub mod StandingShape
 pub mod FreshPages
+pub mod RedoneOnce
+pub mod MarkFits
+pub mod OneBlock
+pub mod PutOldEffect

@@ -38,6 +38,7 @@ use Rattle.graph_pages.proofs.KindsApart.{list_is_no_element}
 use Rattle.graph_pages.proofs.PageSets.{IsChangedAt, changed_at}
 use Rattle.graph_pages.proofs.OneItem.{not_root}
 use Rattle.graph_pages.proofs.HeadEffect.{low_from, params_in_range}
+use Rattle.graph_pages.proofs.RedoneOnce.{same_all}
 use Rattle.graph_pages.proofs.TwoItems.{AreBoth, none_or_some, both_effect}
 
 -- ---- the two tuples
@@ -179,32 +180,24 @@ renumbered p wrap version off number c d was = record {
 
 -- ---- the pages
 
-same_pages : {X : Type 0} (xs ys : List X) → ((i : ℕ) → slice_get xs i ≡ slice_get ys i) → xs ≡ ys
-same_pages [] [] same = refl
-same_pages [] (y ∷ ys) same = let first = same 0 in absurd cc
-same_pages (x ∷ xs) [] same = let first = same 0 in absurd cc
-same_pages (x ∷ xs) (y ∷ ys) same =
-    let first : x ≡ y = some_is x y (same 0) in
-    ap (λ z. z ∷ xs) first ∙ ap (λ zs. y ∷ zs) (same_pages xs ys (λ i. same (suc i)))
-
-is_first : (a b : ℕ) → Contains (a ∷ b ∷ []) a
+pub is_first : (a b : ℕ) → Contains (a ∷ b ∷ []) a
 is_first a b = (0, omega arith, refl)
 
-is_second : (a b : ℕ) → Contains (a ∷ b ∷ []) b
+pub is_second : (a b : ℕ) → Contains (a ∷ b ∷ []) b
 is_second a b = (1, omega arith, refl)
 
-is_neither : (a b block : ℕ) → (a ≡ block → ⊥) → (b ≡ block → ⊥) → Contains (a ∷ b ∷ []) block → ⊥
+pub is_neither : (a b block : ℕ) → (a ≡ block → ⊥) → (b ≡ block → ⊥) → Contains (a ∷ b ∷ []) block → ⊥
 is_neither a b block first second (zero, h, is) = first is
 is_neither a b block first second (suc zero, h, is) = second is
 is_neither a b block first second (suc (suc i), h, is) = absurd (omega (arith, h))
 
 -- two pages of a list are others, and all else stays
-two_set : (pages after : List Content) (a b : ℕ) (c d e f : Content) → slice_get pages a ≡ Some c
+pub two_set : (pages after : List Content) (a b : ℕ) (c d e f : Content) → slice_get pages a ≡ Some c
     → slice_get (slice_set pages a e) b ≡ Some d → ((a ≡ b → ⊥) → slice_get after a ≡ Some e) → slice_get after b ≡ Some f
     → ((block : ℕ) → (a ≡ block → ⊥) → (b ≡ block → ⊥) → slice_get after block ≡ slice_get pages block)
     → after ≡ slice_set (slice_set pages a e) b f
 two_set pages after a b c d e f there list_there first second others =
-    same_pages after (slice_set (slice_set pages a e) b f) at_block
+    same_all after (slice_set (slice_set pages a e) b f) at_block
   where
     at_block : (i : ℕ) → slice_get after i ≡ slice_get (slice_set (slice_set pages a e) b f) i
     at_block i = elim (cases_eq b i) as (λ _. slice_get after i ≡ slice_get (slice_set (slice_set pages a e) b f) i) [
@@ -219,15 +212,15 @@ two_set pages after a b c d e f there list_there first second others =
       ]
     ]
 
-two_same : (a b block : ℕ) (first second : PageChange) (c : Content) → a ≡ block → b ≡ block
+pub two_same : (a b block : ℕ) (first second : PageChange) (c : Content) → a ≡ block → b ≡ block
     → at_two a first b second block c ≡ option_and_then second (first c)
 two_same a b block first second c is also = rw (eq-eqb a block is, eq-eqb b block also) refl
 
-two_first : (a b block : ℕ) (first second : PageChange) (c : Content) → a ≡ block → (b ≡ block → ⊥)
+pub two_first : (a b block : ℕ) (first second : PageChange) (c : Content) → a ≡ block → (b ≡ block → ⊥)
     → at_two a first b second block c ≡ first c
 two_first a b block first second c is other = rw (eq-eqb a block is, ne_eqb b block other) refl
 
-two_second : (a b block : ℕ) (first second : PageChange) (c : Content) → (a ≡ block → ⊥) → b ≡ block
+pub two_second : (a b block : ℕ) (first second : PageChange) (c : Content) → (a ≡ block → ⊥) → b ≡ block
     → at_two a first b second block c ≡ second c
 two_second a b block first second c other is = rw (ne_eqb a block other, eq-eqb b block is) refl
 

@@ -112,7 +112,7 @@ all_set f (y ∷ ys) (suc i) x good all =
     and_from (f y) (list_all f (slice_set ys i x)) parts.0 (all_set f ys i x good parts.1)
 
 -- slots that name places on the blocks that there are
-below_all : (blocks : ℕ) (tids : List (Option Tid))
+pub below_all : (blocks : ℕ) (tids : List (Option Tid))
     → ((slot : ℕ) (to : Tid) → slice_get tids slot ≡ Some (Some to) → to.block < blocks)
     → list_all (is_slot_below blocks) tids ≡ true
 below_all blocks [] below = refl

@@ -1,12 +1,11 @@
 -- Pages of an index that grows: the fresh pages that an event makes, and redo of an event on all blocks that it touches.
-use Rattle.std.specs.Prelude.{◌≡◌, ℕ, ◌+◌, ◌-◌, max, List, [], ◌++◌, length, replicate, slice_get, Option, Some, None, Contains}
+use Rattle.std.specs.Prelude.{ℕ, ◌+◌, ◌-◌, max, List, [], ◌++◌, length, replicate, None}
 use Rattle.vec_names.specs.declared.params.Params.{Params}
 use Rattle.vec_history.specs.declared.event.Event.{Event}
 use Rattle.vec_history.specs.declared.event.Event.TheVariants.{Put, IvfGrow}
 use Rattle.page_bytes.specs.declared.kind.PageKind.{PageKind}
 use Rattle.page_bytes.specs.declared.kind.PageKind.TheVariants.{Hnsw, IvfEntries}
 use Rattle.page_bytes.specs.Content.{Content}
-use Rattle.page_redo.specs.Redo.{touched, redone}
 use Rattle.graph_pages.specs.Effects.{AreRedone}
 
 -- a page without items, as it is made
@@ -26,13 +25,6 @@ new_kind _ = Hnsw
 -- the pages with a fresh one on each new block
 abbrev pub extended : Event → List Content → List Content
 extended event pages = pages ++ replicate (blocks_after event (length pages) - length pages) (fresh_page (new_kind event))
-
--- The event fits the page of each block that it touches, whatever the number and the version to wrap at.
-abbrev pub FitsEach : List Content → Params → Event → Type 0
-FitsEach pages params event =
-    (wrap number block : ℕ) → Contains (touched event params) block
-    → (page : Content) × (slice_get (extended event pages) block ≡ Some page)
-    × (after : Content) × (redone event params wrap number block page ≡ Some after)
 
 -- The pages after an event, with each block that it touches redone, new ones among them.
 abbrev pub AreAllRedone : Params → ℕ → ℕ → Event → List Content → List Content → Type 0

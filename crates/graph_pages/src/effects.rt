@@ -3,26 +3,23 @@
 //! Redo itself tests versions, deleted states, and the numbers of ids and slots. What a law asks besides is what an event that
 //! the rules allow gives.
 
-ghost use Rattle.std.specs.Prelude.{◌≡◌, ◌≤◌, ◌<◌, ◌+◌, ◌++◌, ℕ, List, Option, Some, slice_get, replicate, All};
+ghost use Rattle.std.specs.Prelude.{◌≡◌, ◌≤◌, ◌<◌, ◌+◌, ◌++◌, ◌∷◌, [], ℕ, Bool, List, length, Option, Some, slice_get, replicate, All};
 ghost use Rattle.vec_names.specs.declared.tid.Tid.{Tid as Place};
 ghost use Rattle.vec_names.specs.declared.heap_id.HeapId.{HeapId};
-ghost use Rattle.vec_history.specs.declared.event.Event.TheVariants.{Join, Link, Relist, Drop, Mark, Entry, Hint};
+ghost use Rattle.vec_names.specs.declared.params.Params.{Params as AnyParams};
+ghost use Rattle.vec_history.specs.declared.event.Event.{Event as Events};
+ghost use Rattle.vec_history.specs.declared.event.Event.TheVariants.{Put, Join, Link, Relist, Drop, Mark, Entry, Hint};
 ghost use Rattle.page_bytes.specs.Content.{Content, IsPage};
 ghost use Rattle.vec_graph.specs.declared.node.Node.{Node};
 ghost use Rattle.vec_graph.specs.declared.graph.Graph.{Graph};
 ghost use Rattle.vec_graph.specs.Graph.{node_at, HasLevel};
 ghost use Rattle.vec_graph.specs.Effect.{effect};
+ghost use Rattle.page_redo.specs.Redo.{touched};
 ghost use Rattle.graph_pages.specs.Standing.{Stands};
 ghost use Rattle.graph_pages.specs.Effects.{RedoIsEffect, AreRedone};
 ghost use Rattle.graph_pages.specs.Growing.{fresh_page};
 
 use page_bytes::PageKind;
-
-/// A law, and no work. With fresh pages behind them, pages stand for the same graph, which has more blocks.
-pub fn law_fresh()
-    ensures { (pages : List Content) (g : Graph) (count : ℕ) → Stands pages g
-        → Stands (pages ++ replicate count (fresh_page PageKind.Hnsw)) (record g { blocks = g.blocks + count }) }
-{}
 
 /// A law, and no work. Redo of another hint is that event's effect on the graph, where the graph has so many blocks.
 pub fn law_hint()
@@ -69,4 +66,35 @@ pub fn law_mark()
         → All IsPage pages → Stands pages g → node_at g at ≡ Some n → n.list_at ≡ list_at
         → AreRedone g.params wrap number (Mark at list_at version) pages after
         → Stands after (effect wrap (Mark at list_at version) g) }
+{}
+
+/// A law, and no work. Redo of a new node at the places of another one, which redo asks to be deleted, is that event's effect on the
+/// graph, where each place that its slots name is on one of the graph's blocks.
+pub fn law_put_again()
+    ensures { (pages after : List Content) (g : Graph) (at list_at : Place) (version level : ℕ) (id : HeapId) (bits : List Bool)
+        (lists : List (Option Place)) (wrap number : ℕ) (n : Node) → All IsPage pages → Stands pages g
+        → node_at g at ≡ Some n → n.list_at ≡ list_at
+        → ((slot : ℕ) (to : Place) → slice_get lists slot ≡ Some (Some to) → to.block < g.blocks)
+        → AreRedone g.params wrap number (Put at list_at version level id bits lists) pages after
+        → Stands after (effect wrap (Put at list_at version level id bits lists) g) }
+{}
+
+/// A law, and no work. Of an event that touches one block, which has a page, the pages after redo stand for the graph after it, where
+/// its redo is its effect.
+pub fn law_one_block()
+    ensures { (pages after : List Content) (g : Graph) (event : Events) (wrap number block : ℕ) → All IsPage pages → Stands pages g
+        → touched event g.params ≡ block ∷ [] → block < length pages → RedoIsEffect pages g event
+        → AreRedone g.params wrap number event pages after → Stands after (effect wrap event g) }
+{}
+
+/// A law, and no work. Redo of an event gives just one list of pages.
+pub fn law_once()
+    ensures { (params : AnyParams) (wrap number : ℕ) (event : Events) (pages after again : List Content)
+        → AreRedone params wrap number event pages after → AreRedone params wrap number event pages again → after ≡ again }
+{}
+
+/// A law, and no work. With fresh pages behind them, pages stand for the same graph, which has more blocks.
+pub fn law_fresh()
+    ensures { (pages : List Content) (g : Graph) (count : ℕ) → Stands pages g
+        → Stands (pages ++ replicate count (fresh_page PageKind.Hnsw)) (record g { blocks = g.blocks + count }) }
 {}

@@ -1,45 +1,52 @@
-//! That redo takes an event which changes one tuple of a graph, on the pages that stand for that graph: laws, and no work.
+//! That redo takes an event which changes tuples of a graph, on the pages that stand for that graph: laws, and no work.
 //!
-//! An event fits where the block that it touches has a page, and redo makes another page of that one. What a law asks is what
+//! An event fits where each block that it touches has a page, and redo makes another page of that one. What a law asks is what
 //! the rules ask of the node in the graph, as far as redo tests it; of the hint redo asks that it is at most 32,768.
 
 ghost use Rattle.std.specs.Prelude.{◌≡◌, ◌≤◌, ◌<◌, ◌^◌, ℕ, List, All, Option, None, length};
 ghost use Rattle.vec_names.specs.declared.tid.Tid.{Tid as Place};
 ghost use Rattle.vec_names.specs.declared.heap_id.HeapId.{HeapId};
-ghost use Rattle.vec_history.specs.declared.event.Event.TheVariants.{Join, Link, Relist, Drop, Entry, Hint};
+ghost use Rattle.vec_history.specs.declared.event.Event.TheVariants.{Join, Link, Relist, Drop, Mark, Entry, Hint};
 ghost use Rattle.page_bytes.specs.Content.{Content, IsPage};
 ghost use Rattle.vec_graph.specs.declared.node.Node.{Node};
 ghost use Rattle.vec_graph.specs.declared.graph.Graph.{Graph};
 ghost use Rattle.vec_graph.specs.Rules.{IsThere};
 ghost use Rattle.graph_pages.specs.Standing.{Stands};
-ghost use Rattle.graph_pages.specs.Fitting.{Fits};
+ghost use Rattle.graph_pages.specs.Fitting.{FitsEach};
 
 use index_sizes::MOST_BLOCKS;
+
+/// A law, and no work. A node's deletion fits the pages of its element and of its neighbour tuple, where the node at the place is of
+/// the named version and is not deleted, and the neighbour tuple is the node's.
+pub fn law_mark_fits()
+    ensures { (pages : List Content) (g : Graph) (at list_at : Place) (version : ℕ) (n : Node) → All IsPage pages → Stands pages g
+        → IsThere g at version n → n.list_at ≡ list_at → FitsEach pages g.params (Mark at list_at version) }
+{}
 
 /// A law, and no work. Another hint fits, where it is a block from 1 to 32,768.
 pub fn law_hint_fits()
     ensures { (pages : List Content) (g : Graph) (hint : ℕ) → All IsPage pages → Stands pages g → 1 ≤ hint → hint ≤ MOST_BLOCKS
-        → Fits pages g (Hint hint) }
+        → FitsEach pages g.params (Hint hint) }
 {}
 
 /// A law, and no work. Another entry point fits, and so does none, where the level is 0.
 pub fn law_entry_fits()
     ensures { (pages : List Content) (g : Graph) (to : Option Place) (level : ℕ) → All IsPage pages → Stands pages g
-        → (to ≡ None → level ≡ 0) → Fits pages g (Entry to level) }
+        → (to ≡ None → level ≡ 0) → FitsEach pages g.params (Entry to level) }
 {}
 
 /// A law, and no work. A further id of an element fits, where the node at the place is of the named version, is not deleted
 /// and has at most 9 ids.
 pub fn law_join_fits()
     ensures { (pages : List Content) (g : Graph) (at : Place) (version : ℕ) (id : HeapId) (n : Node) → All IsPage pages
-        → Stands pages g → IsThere g at version n → length n.ids ≤ 9 → Fits pages g (Join at version id) }
+        → Stands pages g → IsThere g at version n → length n.ids ≤ 9 → FitsEach pages g.params (Join at version id) }
 {}
 
 /// A law, and no work. That ids of an element go fits, where the node at the place is of the named version and is not
 /// deleted, and no bit of the mask is set past the node's ids.
 pub fn law_drop_fits()
     ensures { (pages : List Content) (g : Graph) (at : Place) (version gone : ℕ) (n : Node) → All IsPage pages → Stands pages g
-        → IsThere g at version n → gone < 2 ^ length n.ids → Fits pages g (Drop at version gone) }
+        → IsThere g at version n → gone < 2 ^ length n.ids → FitsEach pages g.params (Drop at version gone) }
 {}
 
 /// A law, and no work. A slot that comes to name a place fits, where the node at the element's place is of the named version
@@ -47,7 +54,7 @@ pub fn law_drop_fits()
 pub fn law_link_fits()
     ensures { (pages : List Content) (g : Graph) (at list_at to : Place) (version slot : ℕ) (n : Node) → All IsPage pages
         → Stands pages g → IsThere g at version n → n.list_at ≡ list_at → slot < length n.slots
-        → Fits pages g (Link at list_at version slot to) }
+        → FitsEach pages g.params (Link at list_at version slot to) }
 {}
 
 /// A law, and no work. Other slots of a node fit, where the node at the element's place is of the named version and is not
@@ -55,5 +62,5 @@ pub fn law_link_fits()
 pub fn law_relist_fits()
     ensures { (pages : List Content) (g : Graph) (at list_at : Place) (version : ℕ) (lists : List (Option Place)) (n : Node)
         → All IsPage pages → Stands pages g → IsThere g at version n → n.list_at ≡ list_at → length lists ≡ length n.slots
-        → Fits pages g (Relist at list_at version lists) }
+        → FitsEach pages g.params (Relist at list_at version lists) }
 {}

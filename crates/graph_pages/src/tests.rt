@@ -2,8 +2,8 @@
 
 use crate::{
     GraphFault, graph_of, law_drop, law_drop_fits, law_entry, law_entry_fits, law_fresh, law_hint,
-    law_hint_fits, law_join, law_join_fits, law_link, law_link_fits, law_mark, law_relist,
-    law_relist_fits, law_standing,
+    law_hint_fits, law_join, law_join_fits, law_link, law_link_fits, law_mark, law_mark_fits,
+    law_once, law_one_block, law_put_again, law_relist, law_relist_fits, law_standing,
 };
 use bit_code::read_bits;
 use page_bytes::{Page, PageKind};
@@ -311,41 +311,56 @@ fn a_byte_that_breaks_a_rule(rt: HostRuntime) -> Result<(), Fail> {
     Ok(())
 }
 
-#[test]
-fn pages_that_break_a_rule(rt: HostRuntime) -> Result<(), Fail> {
-    let alloc = rt.alloc();
-    assert!(rt; broken(alloc, &pages_of(KINDS, &small_index()))? == None);
+/// The block that breaks a rule where the pages of the small index are of these kinds.
+fn broken_of_kinds(alloc: Global, kinds: [PageKind; 3]) -> Result<Option<u32>, GraphFault> {
+    broken(alloc, &pages_of(kinds, &small_index()))
+}
 
+/// The block that breaks a rule where a page of the small index has one item more, and any number.
+fn broken_with(alloc: Global, block: usize, item: &[u8]) -> Result<Option<u32>, GraphFault> {
+    let mut pages = pages_of(KINDS, &small_index());
+    if let Some(page) = pages.get_mut(block) {
+        page.set_number(7);
+        if !item.is_empty() && item.len() <= 81 {
+            page.add_item(item);
+        }
+    }
+    broken(alloc, &pages)
+}
+
+#[test]
+fn kinds_that_break_a_rule(rt: HostRuntime) -> Result<(), Fail> {
     // A page of a wrong kind, whose tuples are counted all the same, breaks at that page alone; of two the lower is named.
     for (kinds, block) in [
-        ([PageKind::Hnsw, PageKind::Hnsw, PageKind::Hnsw], 0),
-        ([PageKind::Meta, PageKind::Meta, PageKind::Hnsw], 1),
-        ([PageKind::Meta, PageKind::Hnsw, PageKind::IvfLists], 2),
-        ([PageKind::Meta, PageKind::IvfEntries, PageKind::Meta], 1),
+        (KINDS, None),
+        ([PageKind::Hnsw, PageKind::Hnsw, PageKind::Hnsw], Some(0)),
+        ([PageKind::Meta, PageKind::Meta, PageKind::Hnsw], Some(1)),
+        (
+            [PageKind::Meta, PageKind::Hnsw, PageKind::IvfLists],
+            Some(2),
+        ),
+        (
+            [PageKind::Meta, PageKind::IvfEntries, PageKind::Meta],
+            Some(1),
+        ),
     ] {
-        assert!(rt; broken(alloc, &pages_of(kinds, &small_index()))? == Some(block));
+        assert!(rt; broken_of_kinds(rt.alloc(), kinds)? == block);
     }
+    Ok(())
+}
+
+#[test]
+fn items_that_break_a_rule(rt: HostRuntime) -> Result<(), Fail> {
+    let alloc = rt.alloc();
 
     // One item more: beside the meta tuple, of neither kind, a list that no element names, and an element that names the list
-    // of another one.
-    for (block, item, bad) in [(0, 9, 0), (1, 9, 1), (2, 9, 2)] {
-        let mut pages = pages_of(KINDS, &small_index());
-        if let Some(page) = pages.get_mut(block) {
-            page.add_item(&[item]);
-        }
-        assert!(rt; broken(alloc, &pages)? == Some(bad));
+    // of another one. The number of a page is no matter.
+    for (block, bad) in [(0, 0), (1, 1), (2, 2)] {
+        assert!(rt; broken_with(alloc, block, &[9])? == Some(bad));
     }
-    let mut pages = pages_of(KINDS, &small_index());
-    pages[2].add_item(&SLOTS);
-    assert!(rt; broken(alloc, &pages)? == Some(2));
-    let mut pages = pages_of(KINDS, &small_index());
-    pages[2].add_item(&ELEMENT);
-    assert!(rt; broken(alloc, &pages)? == Some(1));
-
-    // The number of a page is no matter.
-    let mut pages = pages_of(KINDS, &small_index());
-    pages[1].set_number(7);
-    assert!(rt; broken(alloc, &pages)? == None);
+    assert!(rt; broken_with(alloc, 2, &SLOTS)? == Some(2));
+    assert!(rt; broken_with(alloc, 2, &ELEMENT)? == Some(1));
+    assert!(rt; broken_with(alloc, 1, &[])? == None);
 
     // There is no block 0.
     let none: [Page; 0] = [];
@@ -387,6 +402,9 @@ fn redo_is_the_effect_on_the_graph(rt: HostRuntime) -> Result<(), Fail> {
 fn laws_are_called(_rt: HostRuntime) -> Result<(), Fail> {
     law_standing();
     law_fresh();
+    law_once();
+    law_one_block();
+    law_put_again();
     law_hint();
     law_entry();
     law_link();
@@ -404,6 +422,7 @@ fn fits_are_called(_rt: HostRuntime) -> Result<(), Fail> {
     law_join_fits();
     law_drop_fits();
     law_link_fits();
+    law_mark_fits();
     law_relist_fits();
     Ok(())
 }

@@ -116,13 +116,16 @@ pub fn write_centre(centre: &CentreTuple, into: &mut Vec<u8>) -> Result<(), Tupl
 {
     let places = centre.bits.bytes();
     into.reserve(20 + places.len())?;
-    put(into, &head(centre.first, centre.aim, centre.bits.count()));
+    put(
+        into,
+        &front_of_list(centre.first, centre.aim, centre.bits.count()),
+    );
     put(into, places);
     Ok(())
 }
 
 /// The bytes before the places.
-fn head(first: u32, aim: u32, count: u32) -> [u8; 20]
+fn front_of_list(first: u32, aim: u32, count: u32) -> [u8; 20]
     requires { count ≤ MOST_BITS }
     ensures { result ≡ to_le_bytes w32 first ++ (to_le_bytes w32 aim
         ++ (0 ∷ 0 ∷ 0 ∷ 0 ∷ to_le_bytes w32 (length_word count) ++ to_le_bytes w32 count)) }

@@ -90,7 +90,7 @@ pub fn write_entry(row: &EntryRow, into: &mut Vec<u8>) -> Result<(), TupleFault>
 {
     let places = row.bits.bytes();
     into.reserve(16 + places.len())?;
-    put(into, &head(row.id, row.bits.count()));
+    put(into, &front_of_entry(row.id, row.bits.count()));
     put(into, places);
     Ok(())
 }
@@ -101,12 +101,12 @@ pub fn fill_entry(id: HeapId, bits: &Bits, into: &mut [u8])
     ensures { into.new ≡ entry_bytes (row_with id bits.now) }
 {
     let (front, places) = into.split_at_mut(16);
-    front.copy_from_slice(&head(id, bits.count()));
+    front.copy_from_slice(&front_of_entry(id, bits.count()));
     places.copy_from_slice(bits.bytes());
 }
 
 /// The bytes before the places.
-fn head(id: HeapId, count: u32) -> [u8; 16]
+fn front_of_entry(id: HeapId, count: u32) -> [u8; 16]
     requires { count ≤ MOST_BITS }
     ensures { result ≡ heap_id_bytes id ++ (0 ∷ 0 ∷ to_le_bytes w32 (length_word count) ++ to_le_bytes w32 count) }
 {

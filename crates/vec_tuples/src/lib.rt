@@ -7,14 +7,14 @@ mod centre;
 mod element;
 mod entry;
 mod fault;
-mod in_place;
 mod links;
+mod links_in_place;
 mod meta;
+mod packed_places;
 mod parameters;
-mod pieces;
 mod rows;
+mod six_bytes;
 mod slots;
-mod values;
 
 pub use centre::{CentreTuple, centre_head, read_centre, set_aim, write_centre};
 pub use element::{
@@ -22,10 +22,10 @@ pub use element::{
 };
 pub use entry::{EntryRow, fill_entry, read_entry, write_entry};
 pub use fault::TupleFault;
-pub use in_place::{fill_links, links_head, set_slot, slot};
 pub use links::{Links, read_list, write_list};
+pub use links_in_place::{fill_links, links_head, set_slot, slot};
 pub use meta::{Meta, fill_meta, read_meta, write_meta};
-pub use values::packed;
+pub use packed_places::packed;
 
 #[cfg(test)]
 mod tests;

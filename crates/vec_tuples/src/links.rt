@@ -93,13 +93,16 @@ pub fn write_list(links: &Links, into: &mut Vec<u8>) -> Result<(), TupleFault>
 {
     let tids = links.tids.as_slice();
     into.reserve(4 + 6 * tids.len())?;
-    put(into, &head(links.deleted, links.version, tids.len() as u16));
+    put(
+        into,
+        &front_of_links(links.deleted, links.version, tids.len() as u16),
+    );
     put_slots(into, tids);
     Ok(())
 }
 
 /// The bytes before the slots.
-pub fn head(deleted: bool, version: u8, count: u16) -> [u8; 4]
+pub fn front_of_links(deleted: bool, version: u8, count: u16) -> [u8; 4]
     ensures { result ≡ links_kind deleted ∷ version ∷ to_le_bytes w16 count }
 {
     let c = count.to_le_bytes();

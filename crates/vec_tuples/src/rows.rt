@@ -9,7 +9,7 @@ ghost use Rattle.vec_tuples.specs.Spelling.{rows_bytes};
 ghost use Rattle.vec_tuples.specs.Reading.{optional_row, no_row, row_of, rows};
 ghost use Rattle.byte_fields.specs.Answers.{Gives};
 
-use crate::pieces::put_six;
+use crate::six_bytes::put_six;
 use arrayvec::ArrayVec;
 use byte_fields::Stop;
 use vec_names::HeapId;

@@ -1,6 +1,6 @@
 use Rattle.std.proofs.Common.{arith}
 use Rattle.vec_tuples.proofs.SlotPlaces.{slot_below, slot_set}
-use Rattle.vec_tuples.proofs.in_place.set_slot.Goals as goal
+use Rattle.vec_tuples.proofs.links_in_place.set_slot.Goals as goal
 
 pub returns : goal.returns
 returns c = λ l is.

@@ -1,7 +1,7 @@
 use Rattle.std.proofs.Common.{eqb, refl}
 use Rattle.vec_tuples.specs.Spelling.{links_with}
 use Rattle.vec_tuples.specs.Reading.{links}
-use Rattle.vec_tuples.proofs.in_place.head_at.Goals as goal
+use Rattle.vec_tuples.proofs.links_in_place.head_at.Goals as goal
 
 pub returns : goal.returns
 unfolding links

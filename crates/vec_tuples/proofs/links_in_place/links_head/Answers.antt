@@ -2,7 +2,7 @@ use Rattle.std.proofs.Common.{Some, ap, ◌∙◌, arith}
 use Rattle.vec_tuples.specs.Spelling.{head_of_links}
 use Rattle.vec_tuples.proofs.LinksLaws.{links_field}
 use Rattle.vec_tuples.proofs.Wholes.{none_left, some_left, got_spelled, got_read, over_read, bad_read}
-use Rattle.vec_tuples.proofs.in_place.links_head.Goals as goal
+use Rattle.vec_tuples.proofs.links_in_place.links_head.Goals as goal
 
 pub returns-then-is_empty-clause-spelled : goal.returns-then-is_empty-clause-spelled
 returns-then-is_empty-clause-spelled c =

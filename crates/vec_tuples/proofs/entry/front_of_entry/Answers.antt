@@ -2,7 +2,7 @@ use Rattle.std.proofs.Common.{◌∷◌, ◌++◌}
 use Rattle.std.specs.Int.{w32, to_le_bytes}
 use Rattle.vec_tuples.specs.Spelling.{length_word}
 use Rattle.vec_tuples.proofs.EachField.{row_six}
-use Rattle.vec_tuples.proofs.entry.head.Goals as goal
+use Rattle.vec_tuples.proofs.entry.front_of_entry.Goals as goal
 
 pub returns : goal.returns
 returns c =

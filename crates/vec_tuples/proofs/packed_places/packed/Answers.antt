@@ -1,6 +1,6 @@
 use Rattle.std.proofs.Common.{◌≤◌, length, arith}
 use Rattle.vec_tuples.proofs.PackedAt.{value_stands, rest_behind}
-use Rattle.vec_tuples.proofs.values.packed.Goals as goal
+use Rattle.vec_tuples.proofs.packed_places.packed.Goals as goal
 
 pub places_at-requires : goal.places_at-requires
 places_at-requires c = (value_stands c.args.bytes.now c.requires.0 c.requires.1).long

@@ -1,6 +1,6 @@
 use Rattle.std.proofs.Common.{◌≡◌, Option, Some, None, sym, ◌∙◌}
 use Rattle.vec_tuples.proofs.SlotPlaces.{slot_inside, slot_below, slot_six, slot_get}
-use Rattle.vec_tuples.proofs.in_place.slot.Goals as goal
+use Rattle.vec_tuples.proofs.links_in_place.slot.Goals as goal
 
 none_is_no_some : {A : Type 0} (o : Option A) (v : A) → o ≡ None → o ≡ Some v → ⊥
 none_is_no_some o v none some = let e = sym none ∙ some in cc

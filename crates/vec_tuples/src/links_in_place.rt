@@ -11,8 +11,8 @@ ghost use Rattle.vec_tuples.specs.Reading.{links};
 ghost use Rattle.vec_tuples.specs.Answers.{Passes};
 ghost use Rattle.vec_tuples.specs.declared.links.Links.{Links};
 
-use crate::links::head;
-use crate::pieces::{put_six, six_at};
+use crate::links::front_of_links;
+use crate::six_bytes::{put_six, six_at};
 use crate::slots::{skip_slots, slot_count};
 use byte_fields::{Stop, byte_from};
 use vec_names::{Params, Tid};
@@ -24,7 +24,7 @@ pub fn fill_links(deleted: bool, version: u8, tids: &[Option<Tid>], into: &mut [
     ensures { into.new ≡ links_bytes (links_with deleted version tids.now) }
 {
     let (front, slots) = into.split_at_mut(4);
-    front.copy_from_slice(&head(deleted, version, tids.len() as u16));
+    front.copy_from_slice(&front_of_links(deleted, version, tids.len() as u16));
     fill_slots(tids, slots);
 }
 

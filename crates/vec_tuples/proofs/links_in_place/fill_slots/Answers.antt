@@ -1,6 +1,6 @@
 use Rattle.std.proofs.Common.{arith}
 use Rattle.vec_tuples.proofs.SlotPlaces.{slots_more}
-use Rattle.vec_tuples.proofs.in_place.fill_slots.Goals as goal
+use Rattle.vec_tuples.proofs.links_in_place.fill_slots.Goals as goal
 
 pub places-preserved : goal.places-preserved
 places-preserved c = (
