@@ -1,1 +1,3 @@
 pub mod EventRuns
+pub mod Fronts
+pub mod Runs

@@ -1,6 +1,6 @@
 -- The batches of an epoch. A batch is its seal (1 byte), the length of its events (4) and its events one after the other, at
 -- least one. The log ends at the first seal that is not open.
-use Rattle.std.specs.Prelude.{◌≡◌, ◌≢◌, ◌⊎◌, ℕ, ◌+◌, ◌<◌, ◌≤◌, ◌^◌, List, [], ◌∷◌, ◌++◌, length, drop, slice_get, Option, Some, None, ⊤}
+use Rattle.std.specs.Prelude.{◌≡◌, ◌≢◌, ◌⊎◌, ℕ, ◌+◌, ◌<◌, ◌≤◌, ◌^◌, List, [], ◌∷◌, ◌++◌, length, drop, Option, Some, None, ⊤}
 use Rattle.std.specs.Int.{w32, to_le_bytes}
 use Rattle.std.specs.List.{flat_map}
 use Rattle.page_log.specs.declared.limits.TheConstants.{MOST_USED, OPEN}
@@ -35,7 +35,7 @@ room_of (placed ∷ events) = length (spelling placed.1) + 5 + room_of events
 -- ---- batches
 
 abbrev pub IsOpenAt : List ℕ → ℕ → Type 0
-IsOpenAt area at = slice_get area at ≡ Some OPEN
+IsOpenAt area at = (rest : List ℕ) × (drop at area ≡ OPEN ∷ rest)
 
 -- from an open seal on a batch stands with these bytes of events, whole
 pub record IsBatch (area : List ℕ) (at : ℕ) (bytes : List ℕ) : Type 0 where

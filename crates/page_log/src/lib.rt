@@ -3,8 +3,10 @@
 
 mod batches;
 mod events;
+mod finding;
 mod head;
 mod limits;
+mod log_reading;
 
 pub use head::Head;
 

@@ -1,0 +1,18 @@
+use Rattle.std.proofs.Common.{◌≡◌, ◌≤◌, ◌-◌, length, None}
+use Rattle.page_log.specs.Steps.{OnlyReads}
+use Rattle.page_log.specs.declared.limits.TheConstants.{MOST_USED}
+use Rattle.page_log.proofs.Runs.{IsRun}
+use Rattle.page_log.proofs.log_reading.read_batches.Given as goal
+
+abbrev pub invariant-loop-run : goal.invariant-loop-run
+invariant-loop-run g l = record {
+  used : l.run.used ≤ MOST_USED;
+  fine : l.run.bad ≡ None;
+  size : g.D.Disks.told → l.size ≡ length ((g.D.Disks.disk l.fn.disks).seen l.area);
+  run : g.D.Disks.told → IsRun ((g.D.Disks.disk l.fn.disks).seen l.area) l.at l.run;
+  only : OnlyReads (g.D.Disks.disk l.fn.disks) (g.D.Disks.disk l.disks);
+  later : g.D.Disks.count l.fn.disks ≤ g.D.Disks.count l.disks;
+}
+
+abbrev pub decreases-loop-run : goal.decreases-loop-run
+decreases-loop-run g l = l.size - l.run.end
