@@ -148,7 +148,7 @@ abbrev pub AreSlots : Ops → List Bool → ℕ → List (Option Tid) → List (
 AreSlots ops owner layer [] reads seen = (reads ≡ []) × (seen ≡ [])
 AreSlots ops owner layer (slot ∷ slots) reads seen =
     (first : List (Look × Answer)) × (rest : List (Look × Answer)) × (one : SlotSeen) × (others : List SlotSeen)
-        × (reads ≡ first ++ rest) × (seen ≡ one ∷ others)
+    × (reads ≡ first ++ rest) × (seen ≡ one ∷ others)
     × IsSlot ops owner layer slot first one × AreSlots ops owner layer slots rest others
 
 abbrev pub list_look : Found → ℕ → Look
@@ -214,7 +214,7 @@ AsksToJoin id [] deeds taken = (deeds ≡ []) × (taken ≡ None)
 AsksToJoin id (e ∷ es) deeds taken =
     ((deeds ≡ asked (Joins e.at e.version id) Done ∷ []) × (taken ≡ Some e))
     ⊎ ((reply : Reply) × (rest : List Deed) × IsRefused reply × (deeds ≡ asked (Joins e.at e.version id) reply ∷ rest)
-        × AsksToJoin id es rest taken)
+    × AsksToJoin id es rest taken)
 
 -- A place is asked for on each of so many blocks, from this one on, until one has room, and then on new blocks. `at` is
 -- where the node stands.

@@ -13,7 +13,8 @@ use Rattle.bit_dist.specs.Orders.{dist_cmp_total}
 use Rattle.list_values.specs.Ranking.{ranked}
 use Rattle.list_values.proofs.Ranks.{rises_ranked}
 use Rattle.list_values.proofs.RankedOrder.{sorted_from_rises, rises-map, ranked_permutes}
-use Rattle.ivf_graph.specs.Answer.{Found, found_cmp, hit_of, hit_cmp, answer_of}
+use Rattle.bit_dist.specs.Hits.{hit_cmp}
+use Rattle.ivf_graph.specs.Answer.{Found, found_cmp, hit_of, answer_of}
 
 pub found_cmp_total : IsTotalOrder found_cmp
 found_cmp_total =

@@ -12,7 +12,8 @@ use Rattle.list_values.proofs.RankedOrder.{ranked-map}
 use Rattle.ivf_graph.specs.declared.list.IvfList.{IvfList}
 use Rattle.ivf_graph.specs.declared.graph.IvfGraph.{IvfGraph}
 use Rattle.ivf_graph.specs.Graph.{AreBlocksApart}
-use Rattle.ivf_graph.specs.Answer.{Hit, found, probed, is_nearer, by_nearness, answer_of, ivf_answer}
+use Rattle.bit_dist.specs.Hits.{Hit}
+use Rattle.ivf_graph.specs.Answer.{found, probed, is_nearer, by_nearness, answer_of, ivf_answer}
 use Rattle.index_sizes.specs.declared.limits.TheConstants.{MOST_BITS, PAGE_ROOM}
 use Rattle.index_sizes.specs.Sizes.{item_need, centre_size, centres_on_page}
 use Rattle.ivf_graph.specs.Reads.{first_block, Centre, centre_of, centres_on, centre_pages, centres_read, is_centre_nearer, firsts, Walks, IsAnswerFrom}

@@ -7,6 +7,7 @@ use Rattle.vec_names.specs.declared.heap_id.HeapId.{HeapId}
 use Rattle.vec_names.specs.Order.{heap_id_cmp}
 use Rattle.bit_dist.specs.declared.dist.Dist.{Dist}
 use Rattle.bit_dist.specs.Distances.{hamming_of, dist_cmp}
+use Rattle.bit_dist.specs.Hits.{Hit}
 use Rattle.list_values.specs.Ranking.{ranked}
 use Rattle.ivf_graph.specs.declared.list.IvfList.{IvfList}
 use Rattle.ivf_graph.specs.declared.graph.IvfGraph.{IvfGraph}

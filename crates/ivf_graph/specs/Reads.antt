@@ -13,7 +13,8 @@ use Rattle.ivf_graph.specs.declared.list.IvfList.{IvfList}
 use Rattle.ivf_graph.specs.declared.graph.IvfGraph.{IvfGraph}
 use Rattle.ivf_graph.specs.Graph.{Row, Part, rows_on}
 use Rattle.ivf_graph.specs.Effect.{state_after}
-use Rattle.ivf_graph.specs.Answer.{near_cmp, Found, found_on, Hit, answer_of}
+use Rattle.bit_dist.specs.Hits.{Hit}
+use Rattle.ivf_graph.specs.Answer.{near_cmp, Found, found_on, answer_of}
 
 -- ---- what a read tells
 

@@ -2,7 +2,8 @@
 
 ghost use Rattle.std.specs.Prelude.{◌≤◌, replicate, ◌≡◌, ◌⊎◌, ℕ, ◌∷◌, [], Bool, true, false, List, map, min, length, IsSorted, IsPermutation};
 ghost use Rattle.vec_history.specs.declared.event.Event.{Event as Events};
-ghost use Rattle.ivf_graph.specs.Answer.{Hit, ivf_answer, found, probed, hit_of, hit_of_row, hit_cmp};
+ghost use Rattle.ivf_graph.specs.Answer.{ivf_answer, found, probed, hit_of, hit_of_row};
+ghost use Rattle.bit_dist.specs.Hits.{Hit, hit_cmp};
 ghost use Rattle.ivf_graph.specs.Examples.{four, row_1, row_2, row_3, row_4, row_5, unequal_by, worked_acts, worked_index};
 ghost use Rattle.ivf_graph.specs.Graph.{rows, centres, row_need, AreBlocksApart, AreBlocksOwn};
 ghost use Rattle.ivf_graph.specs.Reads.{centre_pages, IsAnswerAt, IsAnswerFrom};
