@@ -53,7 +53,8 @@ pub(crate) fn knows_members(
     level: u8,
     lists: &Listed<Option<Tid>>,
 ) -> bool
-    ensures { IsTrue result ↔ KnowsMembers course.now.base.now course.now.acts.now desk (after course.now.base.now course.now.acts.now).params.m level lists.now }
+    ensures { let m = (after course.now.base.now course.now.acts.now).params.m in
+        IsTrue result ↔ KnowsMembers course.now.base.now course.now.acts.now desk m level lists.now }
 {
     let slots = lists.as_slice();
     for slot in 0..slots.len() {

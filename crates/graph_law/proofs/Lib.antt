@@ -6,3 +6,4 @@ pub mod Marking
 pub mod ActByAct
 pub mod Facts
 pub mod Entering
+pub mod Nothing

@@ -50,5 +50,6 @@ pub record IsCleanFrom (base : Graph) (acts : List Act) (position : ℕ) : Type 
 -- The law: the graph is sound also from what desks know and have touched; and where all was cleaned, what was touched since is live.
 pub record IsLawful (base : Graph) (acts : List Act) : Type 0 where
   pub sound : IsSoundWith (after base acts) (IsInHand base acts)
-  pub touched_live : (desk since p : ℕ) (hold : Hold) (at : Tid) → HoldsSince acts desk Scan hold since → IsCleanFrom base acts p → p ≤ since
+  pub touched_live : (desk since p : ℕ) (hold : Hold) (at : Tid) → HoldsSince acts desk Scan hold since → IsCleanFrom base acts p
+      → p ≤ since
       → IsTouched base acts since at → IsLiveAt (after base acts) at 0

@@ -55,21 +55,28 @@ pub fn law_scan(base: &Graph, acts: &[Act])
     requires legal { IsLegal base.now acts.now }
     requires shaped { IsShaped base.now }
     requires sound { IsSound base.now }
-    ensures not_deleted { (n desk since p : ℕ) (hold : Holding) (at : Tids) → n ≤ length acts.now → HoldsSince (take n acts.now) desk ScanGate hold since
+    ensures not_deleted { (n desk since p : ℕ) (hold : Holding) (at : Tids) → n ≤ length acts.now
+        → HoldsSince (take n acts.now) desk ScanGate hold since
         → IsTouchedAt base.now acts.now since p at → p ≤ n → IsUndeletedAt (state_after base.now acts.now n) at }
-    ensures high_enough { (n desk since before p layer : ℕ) (hold : Holding) (owner to : Tids) → n ≤ length acts.now → HoldsSince (take n acts.now) desk ScanGate hold since
-        → IsTouchedAt base.now acts.now since before owner → before ≤ p → p ≤ n → HasMember (state_after base.now acts.now p) owner layer to
+    ensures high_enough { (n desk since before p layer : ℕ) (hold : Holding) (owner to : Tids) → n ≤ length acts.now
+        → HoldsSince (take n acts.now) desk ScanGate hold since
+        → IsTouchedAt base.now acts.now since before owner → before ≤ p → p ≤ n
+        → HasMember (state_after base.now acts.now p) owner layer to
         → IsAsHigh (state_after base.now acts.now n) to layer }
     // the entry point as it was told reaches the level that was told with it
     ensures entry { (n p : ℕ) (at : Tids) → p ≤ n → (state_after base.now acts.now p).entry ≡ Some at
         → IsAsHigh (state_after base.now acts.now n) at (state_after base.now acts.now p).level }
     // a touched node keeps its version, level, bits and list
-    ensures same { (n desk since p : ℕ) (hold : Holding) (at : Tids) (was : Nodes) → n ≤ length acts.now → HoldsSince (take n acts.now) desk ScanGate hold since
+    ensures same { (n desk since p : ℕ) (hold : Holding) (at : Tids) (was : Nodes) → n ≤ length acts.now
+        → HoldsSince (take n acts.now) desk ScanGate hold since
         → IsTouchedAt base.now acts.now since p at → p ≤ n → node_at (state_after base.now acts.now p) at ≡ Some was
         → IsSameAt (state_after base.now acts.now n) at was }
-    ensures live { (n desk since p clean : ℕ) (hold : Holding) (at : Tids) → n ≤ length acts.now → HoldsSince (take n acts.now) desk ScanGate hold since
-        → IsTouchedAt base.now acts.now since p at → p ≤ n → IsCleanFrom base.now (take n acts.now) clean → clean ≤ since → IsLiveAt (state_after base.now acts.now n) at 0 }
-    ensures not_marked { (n desk marker since p version : ℕ) (hold : Holding) (at list_at : Tids) → IsActAt acts.now n marker (event.Mark at list_at version)
+    ensures live { (n desk since p clean : ℕ) (hold : Holding) (at : Tids) → n ≤ length acts.now
+        → HoldsSince (take n acts.now) desk ScanGate hold since
+        → IsTouchedAt base.now acts.now since p at → p ≤ n → IsCleanFrom base.now (take n acts.now) clean → clean ≤ since
+        → IsLiveAt (state_after base.now acts.now n) at 0 }
+    ensures not_marked { (n desk marker since p version : ℕ) (hold : Holding) (at list_at : Tids)
+        → IsActAt acts.now n marker (event.Mark at list_at version)
         → HoldsSince (take n acts.now) desk ScanGate hold since → IsTouchedAt base.now acts.now since p at → p ≤ n → ⊥ }
 {}
 
@@ -78,10 +85,13 @@ pub fn law_scan(base: &Graph, acts: &[Act])
 pub fn law_behind_drops(base: &Graph, acts: &[Act])
     requires legal { IsLegal base.now acts.now }
     requires shaped { IsShaped base.now }
-    ensures known { (b desk layer : ℕ) (at : Tids) → IsBehindDrops acts.now b → Knows base.now acts.now desk at layer → IsLiveAt (after base.now acts.now) at layer }
-    ensures live { (b p layer : ℕ) (at : Tids) → IsBehindDrops acts.now b → b < p → p ≤ length acts.now → IsLiveAt (state_after base.now acts.now p) at layer
+    ensures known { (b desk layer : ℕ) (at : Tids) → IsBehindDrops acts.now b → Knows base.now acts.now desk at layer
         → IsLiveAt (after base.now acts.now) at layer }
-    ensures doomed { (b p : ℕ) (at : Tids) → IsBehindDrops acts.now b → b < p → p ≤ length acts.now → IsDoomedAt (after base.now acts.now) at
+    ensures live { (b p layer : ℕ) (at : Tids) → IsBehindDrops acts.now b → b < p → p ≤ length acts.now
+        → IsLiveAt (state_after base.now acts.now p) at layer
+        → IsLiveAt (after base.now acts.now) at layer }
+    ensures doomed { (b p : ℕ) (at : Tids) → IsBehindDrops acts.now b → b < p → p ≤ length acts.now
+        → IsDoomedAt (after base.now acts.now) at
         → IsDoomedAt (state_after base.now acts.now p) at }
 {}
 
@@ -91,9 +101,12 @@ pub fn law_cleaned(base: &Graph, acts: &[Act])
     requires legal { IsLegal base.now acts.now }
     requires shaped { IsShaped base.now }
     requires sound { IsSound base.now }
-    ensures repaired { (desk : ℕ) → IsRepaired base.now acts.now desk → (p : ℕ) × IsCleanFrom base.now acts.now p × IsActAt acts.now p desk (event.Gate ScanGate Alone) }
-    ensures marking { (desk : ℕ) → IsInPhase acts.now desk Mark → (p : ℕ) × IsCleanFrom base.now acts.now p × IsActAt acts.now p desk (event.Gate ScanGate Alone) }
+    ensures repaired { (desk : ℕ) → IsRepaired base.now acts.now desk
+        → (p : ℕ) × IsCleanFrom base.now acts.now p × IsActAt acts.now p desk (event.Gate ScanGate Alone) }
+    ensures marking { (desk : ℕ) → IsInPhase acts.now desk Mark
+        → (p : ℕ) × IsCleanFrom base.now acts.now p × IsActAt acts.now p desk (event.Gate ScanGate Alone) }
     ensures members { (p layer : ℕ) (at to : Tids) → IsCleanFrom base.now acts.now p → IsLiveAt (after base.now acts.now) at 0
         → HasMember (after base.now acts.now) at layer to → IsLiveAt (after base.now acts.now) to 0 }
-    ensures entry { (p : ℕ) (to : Tids) → IsCleanFrom base.now acts.now p → (after base.now acts.now).entry ≡ Some to → IsLiveAt (after base.now acts.now) to 0 }
+    ensures entry { (p : ℕ) (to : Tids) → IsCleanFrom base.now acts.now p → (after base.now acts.now).entry ≡ Some to
+        → IsLiveAt (after base.now acts.now) to 0 }
 {}

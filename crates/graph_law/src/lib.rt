@@ -9,3 +9,6 @@
 mod law;
 
 pub use law::{law_behind_drops, law_cleaned, law_known, law_scan, law_sound};
+
+#[cfg(test)]
+mod tests;

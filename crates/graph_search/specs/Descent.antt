@@ -29,8 +29,8 @@ IsLowered ops query to zero from reads result = (reads ≡ []) × (result ≡ fr
 IsLowered ops query to (suc k) from reads result =
     LayersDown (λ next later. IsLowered ops query to k next later result) (start_at ops query from (to + suc k)) reads
 
--- The descent to layer `to`: the meta tuple, then the entry point at its level, and then the layers above. `top` is the entry point's level. Without
--- an entry point, or where it is gone, there is none, and nothing to begin from.
+-- The descent to layer `to`: the meta tuple, then the entry point at its level, and then the layers above. `top` is the
+-- entry point's level. Without an entry point, or where it is gone, there is none, and nothing to begin from.
 pub data Descent (ops : Ops) (query : List Bool) (to : ℕ) : List (Look × Answer) → Option ℕ → List Found → Type 0 where
   no_entry : (level hint blocks : ℕ) → Descent ops query to ((AtMeta, OfMeta None level hint blocks) ∷ []) None []
   entry_gone : (at : Tid) (level hint blocks : ℕ) (told : Answer) → element_of ops query at told ≡ []

@@ -55,7 +55,8 @@ pub record Lists : Type 0 where
   pub near : List Found
 
 -- One layer is searched, and then those below it.
-pub record LayerOfLists (deeper : List Found → List (Look × Answer) → Lists → Type 0) (n : Newcomer) (layer : ℕ) (from : List Found) (reads : List (Look × Answer)) (lists : Lists) : Type 0 where
+pub record LayerOfLists (deeper : List Found → List (Look × Answer) → Lists → Type 0) (n : Newcomer) (layer : ℕ) (from : List Found)
+    (reads : List (Look × Answer)) (lists : Lists) : Type 0 where
   pub first : List (Look × Answer)
   pub found : List Found
   pub search : LayerSearch (start_at n.ops n.bits from layer) n.ef first found
@@ -86,8 +87,8 @@ abbrev pub lists_below : Newcomer → Option ℕ → List Found → List (Look �
 lists_below n None from reads lists = (reads ≡ []) × (lists ≡ record { slots = no_neighbours n.m n.level; picks = []; near = [] })
 lists_below n (Some top) from reads lists = ListsFrom n top from reads lists
 
--- The lists: the descent to the node's level, and then each layer down to the lowest, where what one layer found is where the next begins. `top` is the
--- entry point's level.
+-- The lists: the descent to the node's level, and then each layer down to the lowest, where what one layer found is
+-- where the next begins. `top` is the entry point's level.
 pub record InsertLists (n : Newcomer) (reads : List (Look × Answer)) (top : Option ℕ) (lists : Lists) : Type 0 where
   pub down : List (Look × Answer)
   pub from : List Found
@@ -146,7 +147,8 @@ pub data IsSlot (ops : Ops) (owner : List Bool) (layer : ℕ) : Option Tid → L
 abbrev pub AreSlots : Ops → List Bool → ℕ → List (Option Tid) → List (Look × Answer) → List SlotSeen → Type 0
 AreSlots ops owner layer [] reads seen = (reads ≡ []) × (seen ≡ [])
 AreSlots ops owner layer (slot ∷ slots) reads seen =
-    (first : List (Look × Answer)) × (rest : List (Look × Answer)) × (one : SlotSeen) × (others : List SlotSeen) × (reads ≡ first ++ rest) × (seen ≡ one ∷ others)
+    (first : List (Look × Answer)) × (rest : List (Look × Answer)) × (one : SlotSeen) × (others : List SlotSeen)
+        × (reads ≡ first ++ rest) × (seen ≡ one ∷ others)
     × IsSlot ops owner layer slot first one × AreSlots ops owner layer slots rest others
 
 abbrev pub list_look : Found → ℕ → Look
@@ -160,15 +162,16 @@ abbrev pub entrant_to : Target → Found → Candidate
 entrant_to t e = record { at = t.at; dist = distance_of t.ops e.bits t.bits; bits = t.bits }
 
 -- what is known once a neighbour's list and its members were read
-pub record ListLooked (t : Target) (e : Found) (layer : ℕ) (deeds : List Deed) (slots : List (Option Tid)) (choice : Option ℕ) : Type 0 where
+pub record ListLooked (t : Target) (e : Found) (layer : ℕ) (deeds : List Deed) (slots : List (Option Tid))
+    (choice : Option ℕ) : Type 0 where
   pub reads : List (Look × Answer)
   pub seen : List SlotSeen
   pub slots_are : AreSlots t.ops e.bits layer slots reads seen
   pub choice_is : choice ≡ slot_of t.ops seen (entrant_to t e)
   pub deeds_are : deeds ≡ looked (list_look e layer) (OfList slots) ∷ looks_of reads
 
--- One try at a neighbour: its list and each member are read, and then it is asked to name the newcomer in the slot that is chosen. Where that slot holds
--- another by now, `again` says what follows.
+-- One try at a neighbour: its list and each member are read, and then it is asked to name the newcomer in the slot that
+-- is chosen. Where that slot holds another by now, `again` says what follows.
 pub data Try (again : List Deed → Type 0) (t : Target) (e : Found) (layer : ℕ) : List Deed → Type 0 where
   no_list : Try again t e layer (looked (list_look e layer) Gone ∷ [])
   no_slot : (deeds : List Deed) (slots : List (Option Tid)) → ListLooked t e layer deeds slots None → Try again t e layer deeds
@@ -176,7 +179,8 @@ pub data Try (again : List Deed → Type 0) (t : Target) (e : Found) (layer : �
       → Try again t e layer (deeds ++ asked (link_to e layer slot slots t.at) Done ∷ [])
   stale : (deeds : List Deed) (slots : List (Option Tid)) (slot : ℕ) → ListLooked t e layer deeds slots (Some slot)
       → Try again t e layer (deeds ++ asked (link_to e layer slot slots t.at) Stale ∷ [])
-  changed : (deeds : List Deed) (slots : List (Option Tid)) (slot : ℕ) (later : List Deed) → ListLooked t e layer deeds slots (Some slot) → again later
+  changed : (deeds : List Deed) (slots : List (Option Tid)) (slot : ℕ) (later : List Deed)
+      → ListLooked t e layer deeds slots (Some slot) → again later
       → Try again t e layer (deeds ++ asked (link_to e layer slot slots t.at) Changed ∷ later)
 
 -- at most so many tries
@@ -187,7 +191,8 @@ Tries t e layer (suc k) deeds = Try (λ later. Tries t e layer k later) t e laye
 -- The links back: each neighbour in turn, from the highest layer down, is tried at most three times.
 abbrev pub LinksBack : Target → List (ℕ × Found) → List Deed → Type 0
 LinksBack t [] deeds = deeds ≡ []
-LinksBack t (p ∷ picks) deeds = (first : List Deed) × (rest : List Deed) × (deeds ≡ first ++ rest) × Tries t p.1 p.0 3 first × LinksBack t picks rest
+LinksBack t (p ∷ picks) deeds = (first : List Deed) × (rest : List Deed) × (deeds ≡ first ++ rest) × Tries t p.1 p.0 3 first
+    × LinksBack t picks rest
 
 -- ---- the whole course
 
@@ -208,9 +213,11 @@ abbrev pub AsksToJoin : HeapId → List Found → List Deed → Option Found →
 AsksToJoin id [] deeds taken = (deeds ≡ []) × (taken ≡ None)
 AsksToJoin id (e ∷ es) deeds taken =
     ((deeds ≡ asked (Joins e.at e.version id) Done ∷ []) × (taken ≡ Some e))
-    ⊎ ((reply : Reply) × (rest : List Deed) × IsRefused reply × (deeds ≡ asked (Joins e.at e.version id) reply ∷ rest) × AsksToJoin id es rest taken)
+    ⊎ ((reply : Reply) × (rest : List Deed) × IsRefused reply × (deeds ≡ asked (Joins e.at e.version id) reply ∷ rest)
+        × AsksToJoin id es rest taken)
 
--- A place is asked for on each of so many blocks, from this one on, until one has room, and then on new blocks. `at` is where the node stands.
+-- A place is asked for on each of so many blocks, from this one on, until one has room, and then on new blocks. `at` is
+-- where the node stands.
 abbrev pub AsksForPlace : ℕ → ℕ → Tid → List Deed → Type 0
 AsksForPlace zero block at deeds = deeds ≡ asked PutsNew Done ∷ []
 AsksForPlace (suc k) block at deeds =
@@ -244,9 +251,10 @@ EndsAs n hint blocks top lists (Some e) outcome deeds = (outcome ≡ Joined e) �
 EndsAs n hint blocks top lists None (Joined e) deeds = ⊥
 EndsAs n hint blocks top lists None (Put at) deeds = PutsNode n hint blocks top lists at deeds
 
--- What an insert does under its gate: the lists; the elements that have its value are asked to take the id; else a new node is put. `hint` and `blocks` are
--- what its own last look at the meta tuple told, before.
-pub record InsertCourse (n : Newcomer) (id : HeapId) (hint blocks : ℕ) (lists : Lists) (outcome : Outcome) (deeds : List Deed) : Type 0 where
+-- What an insert does under its gate: the lists; the elements that have its value are asked to take the id; else a new
+-- node is put. `hint` and `blocks` are what its own last look at the meta tuple told, before.
+pub record InsertCourse (n : Newcomer) (id : HeapId) (hint blocks : ℕ) (lists : Lists) (outcome : Outcome)
+    (deeds : List Deed) : Type 0 where
   pub reads : List (Look × Answer)
   pub top : Option ℕ
   pub found : InsertLists n reads top lists

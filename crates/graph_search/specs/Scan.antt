@@ -1,5 +1,5 @@
--- A scan in batches: the HNSW paper's Algorithm 5, and after pgvector's iterative scans its going on for more. How a batch goes on, reads anew what it
--- met before, and ends, is this project's own rule.
+-- A scan in batches: the HNSW paper's Algorithm 5, and after pgvector's iterative scans its going on for more. How a
+-- batch goes on, reads anew what it met before, and ends, is this project's own rule.
 use Rattle.std.specs.Prelude.{◌≡◌, ℕ, if◌then◌else◌, Bool, true, false, List, [], ◌∷◌, ◌++◌, map, flat_map, take, Option, Some, None}
 use Rattle.std.specs.Ordering.{is_lt}
 use Rattle.vec_names.specs.declared.tid.Tid.{Tid}
@@ -41,7 +41,8 @@ last_dist last (g ∷ given) = last_dist (Some g.dist) given
 -- ---- the first batch
 
 -- The lowest layer is searched from where the descent leads.
-pub record SearchedBelow (ops : Ops) (query : List Bool) (ef : ℕ) (from : List Found) (reads : List (Look × Answer)) (given : List Given) (now : Standing) : Type 0 where
+pub record SearchedBelow (ops : Ops) (query : List Bool) (ef : ℕ) (from : List Found) (reads : List (Look × Answer))
+    (given : List Given) (now : Standing) : Type 0 where
   pub turns : List Turn
   pub course : IsCourse (start_at ops query from 0) (only_ef ef) [] turns
   pub halted : is_halted (start_at ops query from 0) (only_ef ef) turns ≡ true
@@ -59,9 +60,10 @@ below ops query ef None from reads given now =
     (reads ≡ []) × (given ≡ []) × (now ≡ record { start = start_at ops query [] 0; turns = []; taken = []; last = None })
 below ops query ef (Some top) from reads given now = SearchedBelow ops query ef from reads given now
 
--- The first batch: the descent to the lowest layer, and the search there. It gives each element's rows in their order. Without an entry point, or where
--- that is gone, it gives none.
-pub record FirstBatch (ops : Ops) (query : List Bool) (ef : ℕ) (reads : List (Look × Answer)) (given : List Given) (end : Bool) (now : Standing) : Type 0 where
+-- The first batch: the descent to the lowest layer, and the search there. It gives each element's rows in their order.
+-- Without an entry point, or where that is gone, it gives none.
+pub record FirstBatch (ops : Ops) (query : List Bool) (ef : ℕ) (reads : List (Look × Answer)) (given : List Given) (end : Bool)
+    (now : Standing) : Type 0 where
   pub down : List (Look × Answer)
   pub top : Option ℕ
   pub from : List Found
@@ -76,9 +78,11 @@ pub record FirstBatch (ops : Ops) (query : List Bool) (ef : ℕ) (reads : List (
 abbrev pub is_known_at : List Found → Tid → Bool
 is_known_at es at = is_among (map place_of es) at
 
--- The rows of one element that is taken, and then those of others. One that an earlier batch knew is read again, with its version: where it is gone it
--- gives none, and where it has no row any more neither; else its rows and distance are those now read.
-abbrev pub TakesOne : Bool → Ops → List Bool → Found → (List (Look × Answer) → List Given → Type 0) → List (Look × Answer) → List Given → Type 0
+-- The rows of one element that is taken, and then those of others. One that an earlier batch knew is read again, with
+-- its version: where it is gone it gives none, and where it has no row any more neither; else its rows and distance are
+-- those now read.
+abbrev pub TakesOne : Bool → Ops → List Bool → Found → (List (Look × Answer) → List Given → Type 0) → List (Look × Answer)
+    → List Given → Type 0
 TakesOne true ops query e Others reads given =
     (told : Answer) × (rest : List (Look × Answer)) × (others : List Given) × (reads ≡ (AtNode e.at 0 (Some e.version), told) ∷ rest)
     × (given ≡ flat_map rows_of (element_of ops query e.at told) ++ others) × Others rest others
@@ -107,9 +111,11 @@ abbrev pub let_through : Mode → Option Dist → List Given → List Given
 let_through Relaxed last given = given
 let_through Strict last given = without_nearer last given
 
--- A next batch: the search of the lowest layer goes on, without the elements that were taken before, and makes no expansion once `most` are known. The first
--- ef found are taken. Their looks come after those of the search, in the order in which they were found.
-pub record NextBatch (ef most : ℕ) (mode : Mode) (old : Standing) (reads : List (Look × Answer)) (given : List Given) (end : Bool) (now : Standing) : Type 0 where
+-- A next batch: the search of the lowest layer goes on, without the elements that were taken before, and makes no
+-- expansion once `most` are known. The first ef found are taken. Their looks come after those of the search, in the
+-- order in which they were found.
+pub record NextBatch (ef most : ℕ) (mode : Mode) (old : Standing) (reads : List (Look × Answer)) (given : List Given) (end : Bool)
+    (now : Standing) : Type 0 where
   pub more : List Turn
   pub bounds : Bounds
   pub bounds_are : bounds ≡ record { ef = ef; taken = old.taken; most = Some most }

@@ -11,7 +11,8 @@ ghost use Rattle.graph_search.specs.Examples.{Stand, zeros, last_two, last_three
 /// A law, and no work. The search of one layer gives at most ef elements, each of which was live as it was read, and none
 /// of which comes after one that is farther: they rise by distance, and then by place.
 pub fn law_search()
-    ensures few { (s : Start) (ef : ℕ) (reads : List (Look × Answer)) (result : List Elements) → LayerSearch s ef reads result → length result ≤ ef }
+    ensures few { (s : Start) (ef : ℕ) (reads : List (Look × Answer)) (result : List Elements) → LayerSearch s ef reads result
+        → length result ≤ ef }
     ensures live { (s : Start) (ef : ℕ) (reads : List (Look × Answer)) (result : List Elements) → LayerSearch s ef reads result
         → (i : ℕ) (e : Elements) → slice_get result i ≡ Some e → is_live e ≡ true }
     ensures rising { (s : Start) (ef : ℕ) (reads : List (Look × Answer)) (result : List Elements) → LayerSearch s ef reads result

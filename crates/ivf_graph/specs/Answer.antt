@@ -64,19 +64,11 @@ abbrev pub found_cmp : Found → Found → Ordering
 found_cmp a b = ordering_then (dist_cmp a.distance b.distance)
     (ordering_then (heap_id_cmp a.id b.id) (ordering_then (nat_cmp a.block b.block) (nat_cmp a.offset b.offset)))
 
--- what is answered of a row
-abbrev pub Hit : Type 0
-Hit = Dist × HeapId
-
 abbrev pub hit_of : Found → Hit
 hit_of f = (f.distance, f.id)
 
 abbrev pub hit_of_row : List Bool → Row → Hit
 hit_of_row query r = (hamming_of r.1 query, r.0)
-
--- by distance, then by name
-abbrev pub hit_cmp : Hit → Hit → Ordering
-hit_cmp a b = ordering_then (dist_cmp a.0 b.0) (heap_id_cmp a.1 b.1)
 
 -- the rows found, in order
 abbrev pub answer_of : List Found → List Hit

@@ -1,5 +1,5 @@
--- What a search of the lists answers where each of its reads has a position of its own: first the pages of the centres, rising, and then the
--- blocks of each probed chain, nearest list first.
+-- What a search of the lists answers where each of its reads has a position of its own: first the pages of the centres,
+-- rising, and then the blocks of each probed chain, nearest list first.
 use Rattle.std.specs.Prelude.{◌≡◌, ℕ, ◌+◌, ◌*◌, ◌/◌, ◌≤◌, ◌==◌, Bool, List, [], ◌∷◌, ◌++◌, find, length, map, slice_get, take, drop, Option, Some, None}
 use Rattle.std.specs.List.{flat_map, filter_map, enumerate_from}
 use Rattle.std.specs.Option.{option_map, option_and_then}
@@ -66,7 +66,8 @@ is_centre_nearer query a b = is_lt (near_cmp (hamming_of a.bits query, a.list) (
 abbrev pub firsts : List Bool → ℕ → List Centre → List ℕ
 firsts query probes centres = filter_map (λ c. c.first) (take probes (ranked (is_centre_nearer query) centres))
 
--- The rows found in states, one for each read, where a chain goes on at a block or has ended, and then the chains of these first blocks come.
+-- The rows found in states, one for each read, where a chain goes on at a block or has ended, and then the chains of
+-- these first blocks come.
 pub data Walks (query : List Bool) : List IvfGraph → Option ℕ → List ℕ → List Found → Type 0 where
   done : Walks query [] None [] []
   begins : (states : List IvfGraph) (first : ℕ) (others : List ℕ) (fs : List Found)

@@ -129,39 +129,44 @@ fn aim(alloc: Global, lists: &mut Listed<IvfList>, list: u32, block: u32)
     *lists = Listed::from_vec(whole);
 }
 
-/// Makes of the index what the event makes of it. After want of memory the index is spoilt.
-pub(crate) fn apply(alloc: Global, event: &Event, index: &mut IvfGraph) -> Result<(), AllocError>
-    requires { (list last block : ℕ) (id : HeapIds) (bits : List Bool) → event.now ≡ Event.IvfGrow list last block id bits → block < MOST_BLOCKS }
-    ensures { OnOk result (index.new ≡ effect event.now index.old) }
-{
-    match event {
-        Event::IvfAdd {
-            block,
-            id: _,
-            bits: _,
-        } => change_block(alloc, *block, event, &mut index.lists),
-        Event::IvfDrop { block, gone: _ } => change_block(alloc, *block, event, &mut index.lists),
-        Event::IvfGrow {
-            list,
-            last: _,
-            block,
-            id,
-            bits,
-        } => {
-            grow(
-                alloc,
-                &mut index.lists,
-                *list,
-                *block,
-                (*id, bits.copied()?),
-            )?;
-            index.blocks = index.blocks.max(*block + 1);
-            Ok(())
+impl IvfGraph {
+    /// Makes of this index what the event makes of it. Only memory can be wanting; the index may then be anything.
+    pub fn apply(&mut self, event: &Event, alloc: Global) -> Result<(), AllocError>
+        requires { (list last block : ℕ) (id : HeapIds) (bits : List Bool) → event.now ≡ Event.IvfGrow list last block id bits
+        → block < MOST_BLOCKS }
+        ensures { OnOk result (self.new ≡ effect event.now self.old) }
+    {
+        match event {
+            Event::IvfAdd {
+                block,
+                id: _,
+                bits: _,
+            } => change_block(alloc, *block, event, &mut self.lists),
+            Event::IvfDrop { block, gone: _ } => {
+                change_block(alloc, *block, event, &mut self.lists)
+            }
+            Event::IvfGrow {
+                list,
+                last: _,
+                block,
+                id,
+                bits,
+            } => {
+                grow(
+                    alloc,
+                    &mut self.lists,
+                    *list,
+                    *block,
+                    (*id, bits.copied()?),
+                )?;
+                self.blocks = self.blocks.max(*block + 1);
+                Ok(())
+            }
+            Event::IvfHint { list, block } => {
+                aim(alloc, &mut self.lists, *list, *block);
+                Ok(())
+            }
+            _ => Ok(()),
         }
-        Event::IvfHint { list, block } => {
-            aim(alloc, &mut index.lists, *list, *block);
-            Ok(())
-        }
-        _ => Ok(()),
     }
 }

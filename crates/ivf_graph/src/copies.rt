@@ -51,12 +51,14 @@ fn copied_lists(alloc: Global, lists: &[IvfList]) -> Result<Listed<IvfList>, All
     Ok(copy)
 }
 
-/// The same index in memory of its own.
-pub(crate) fn copied(alloc: Global, index: &IvfGraph) -> Result<IvfGraph, AllocError>
-    ensures { IfOk result (λ copy. copy ≡ index.now) }
-{
-    Ok(IvfGraph {
-        lists: copied_lists(alloc, index.lists.as_slice())?,
-        blocks: index.blocks,
-    })
+impl IvfGraph {
+    /// An equal index, in memory of its own.
+    pub fn try_clone(&self, alloc: Global) -> Result<IvfGraph, AllocError>
+        ensures { IfOk result (λ copy. copy ≡ self.now) }
+    {
+        Ok(IvfGraph {
+            lists: copied_lists(alloc, self.lists.as_slice())?,
+            blocks: self.blocks,
+        })
+    }
 }

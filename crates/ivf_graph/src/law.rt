@@ -33,7 +33,8 @@ pub fn law_blocks(base: &IvfGraph, acts: &[Act])
 /// where there are fewer, and then the answer has all rows.
 pub fn law_answer(index: &IvfGraph)
     ensures rises { (query : List Bool) (probes : ℕ) → IsSorted hit_cmp (ivf_answer index.now query probes) }
-    ensures all { (query : List Bool) (probes : ℕ) → IsPermutation (map hit_of (found index.now query probes)) (ivf_answer index.now query probes) }
+    ensures all { (query : List Bool) (probes : ℕ)
+        → IsPermutation (map hit_of (found index.now query probes)) (ivf_answer index.now query probes) }
     ensures few { (query : List Bool) (probes : ℕ) → length (probed index.now query probes) ≡ min probes (length index.now.lists) }
     ensures whole { (query : List Bool) (probes : ℕ) → length index.now.lists ≤ probes
         → IsPermutation (map (hit_of_row query) (rows index.now)) (ivf_answer index.now query probes) }
@@ -44,7 +45,8 @@ pub fn law_answer(index: &IvfGraph)
 pub fn law_reads(index: &IvfGraph)
     requires { AreBlocksApart index.now }
     ensures one { (reads probes : ℕ) (query : List Bool) (answer : List Hit) → length query ≤ MOST_BITS
-        → IsAnswerFrom (replicate reads index.now) (length index.now.lists) query probes answer → answer ≡ ivf_answer index.now query probes }
+        → IsAnswerFrom (replicate reads index.now) (length index.now.lists) query probes answer
+        → answer ≡ ivf_answer index.now query probes }
     ensures some { (probes : ℕ) (query : List Bool) → length query ≤ MOST_BITS
         → (reads : ℕ) × IsAnswerFrom (replicate reads index.now) (length index.now.lists) query probes (ivf_answer index.now query probes) }
 {}

@@ -2,8 +2,9 @@
 //! allows, and what it answers.
 //!
 //! The definitions stand in specs/: `Graph` (chains of blocks, the rows of a block, the room of a page), `Effect`
-//! (what an event changes), `Rules` (one word for each kind of event), `Legal`, and `Answer` (what a search
-//! answers). The laws are functions that do no work.
+//! (what an event changes), `Rules` (one word for each kind of event), `Legal`, `Answer` (what a search answers) and
+//! `Reads` (what it answers where each read is of a state of its own). `Examples` has worked ones. The functions of `law` are
+//! laws of those definitions, and do no work. `audit` judges whole histories.
 #![tactic(auto)]
 
 mod audit;

@@ -2,7 +2,8 @@ use super::*;
 use bit_code::{Bits, read_bits};
 use std::alloc::Global;
 use std::test::*;
-use vec_history::{Act, Event, Gate, Hold, Stage};
+use index_sizes::{MOST_BITS, MOST_BLOCKS};
+use vec_history::{Act, Event, Gate, Hold, Stage, law_alone, law_cut};
 use vec_names::{HeapId, Listed};
 
 const ROW: HeapId = HeapId { block: 1, off: 5 };
@@ -192,11 +193,11 @@ fn histories_are_judged(rt: HostRuntime) -> Result<(), Fail> {
 fn a_block_is_full(rt: HostRuntime) -> Result<(), Fail> {
     let alloc = rt.alloc();
     let mut lists = Listed::new(alloc);
-    lists.push(list_on(alloc, 2, Bits::zeros(alloc, 64_000)?, &[])?)?;
+    lists.push(list_on(alloc, 2, Bits::zeros(alloc, MOST_BITS)?, &[])?)?;
     let base = IvfGraph { lists, blocks: 3 };
     let mut acts = Vec::new(alloc);
     for block in [2, 2] {
-        let bits = Bits::zeros(alloc, 64_000)?;
+        let bits = Bits::zeros(alloc, MOST_BITS)?;
         acts.push(Act {
             desk: 1,
             event: Event::IvfAdd {
@@ -214,10 +215,10 @@ fn a_block_is_full(rt: HostRuntime) -> Result<(), Fail> {
 #[test]
 fn blocks_end(rt: HostRuntime) -> Result<(), Fail> {
     let mut base = worked(rt.alloc())?;
-    base.blocks = 32_767;
+    base.blocks = MOST_BLOCKS - 1;
     let deeds = [
-        (1, Deed::Grow(1, 3, 32_767, "0110")),
-        (1, Deed::Grow(1, 32_767, 32_768, "0110")),
+        (1, Deed::Grow(1, 3, MOST_BLOCKS - 1, "0110")),
+        (1, Deed::Grow(1, MOST_BLOCKS - 1, MOST_BLOCKS, "0110")),
     ];
     let acts = acts_of(rt.alloc(), &deeds)?;
     assert_eq!(rt; first_illegal(rt.alloc(), &base, acts.as_slice())?, Some(1));
@@ -232,6 +233,8 @@ fn laws_before_any_act(rt: HostRuntime) {
         blocks: 2,
     };
     let acts: [Act; 0] = [];
+    law_cut(&base, &acts);
+    law_alone(&base, &acts);
     law_blocks(&base, &acts);
     law_rows(&base);
     law_answer(&base);

@@ -50,8 +50,8 @@ abbrev pub is_named : Tid → Option Tid → Bool
 is_named at None = false
 is_named at (Some other) = eq_by_cmp tid_cmp at other
 
--- The slot for an entrant: none where a slot names it; else the lowest empty slot; else the lowest whose member is not live; else that of the
--- one left out, and none where that is the entrant.
+-- The slot for an entrant: none where a slot names it; else the lowest empty slot; else the lowest whose member is not
+-- live; else that of the one left out, and none where that is the entrant.
 abbrev pub slot_of : Ops → List SlotSeen → Candidate → Option ℕ
 slot_of ops slots entrant =
     if list_any (λ s. is_named entrant.at s.at) slots

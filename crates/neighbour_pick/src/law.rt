@@ -16,19 +16,24 @@ ghost use Rattle.neighbour_pick.specs.Slots.{is_named, slot_of};
 pub fn law_selection()
     ensures many { (ops : Operators) (cs : List Candidate) (count : ℕ) → length (picked ops cs count) ≡ min count (length cs) }
     ensures there { (ops : Operators) (cs : List Candidate) (count i k : ℕ) → slice_get (picked ops cs count) i ≡ Some k → k < length cs }
-    ensures once { (ops : Operators) (cs : List Candidate) (count i j k : ℕ) → slice_get (picked ops cs count) i ≡ Some k → slice_get (picked ops cs count) j ≡ Some k
+    ensures once { (ops : Operators) (cs : List Candidate) (count i j k : ℕ) → slice_get (picked ops cs count) i ≡ Some k
+        → slice_get (picked ops cs count) j ≡ Some k
         → i ≡ j }
 {}
 
 /// A law, and no work. An entrant that a slot names gets no other. Else, where a slot is empty, it gets one that
 /// is, and none behind that. What it gets is one of the slots.
 pub fn law_slots()
-    ensures named { (ops : Operators) (slots : List SlotSeen) (entrant : Candidate) → list_any (λ s. is_named entrant.at s.at) slots ≡ true
+    ensures named { (ops : Operators) (slots : List SlotSeen) (entrant : Candidate)
+        → list_any (λ s. is_named entrant.at s.at) slots ≡ true
         → slot_of ops slots entrant ≡ None }
-    ensures empty { (ops : Operators) (slots : List SlotSeen) (entrant : Candidate) (k : ℕ) (seen : SlotSeen) → list_any (λ s. is_named entrant.at s.at) slots ≡ false
+    ensures empty { (ops : Operators) (slots : List SlotSeen) (entrant : Candidate) (k : ℕ) (seen : SlotSeen)
+        → list_any (λ s. is_named entrant.at s.at) slots ≡ false
         → slice_get slots k ≡ Some seen → seen.at ≡ None
-        → (j : ℕ) × (other : SlotSeen) × (slot_of ops slots entrant ≡ Some j) × (j ≤ k) × (slice_get slots j ≡ Some other) × (other.at ≡ None) }
-    ensures there { (ops : Operators) (slots : List SlotSeen) (entrant : Candidate) (k : ℕ) → slot_of ops slots entrant ≡ Some k → k < length slots }
+        → (j : ℕ) × (other : SlotSeen) × (slot_of ops slots entrant ≡ Some j) × (j ≤ k) × (slice_get slots j ≡ Some other)
+        × (other.at ≡ None) }
+    ensures there { (ops : Operators) (slots : List SlotSeen) (entrant : Candidate) (k : ℕ) → slot_of ops slots entrant ≡ Some k
+        → k < length slots }
 {}
 
 /// A law, and no work. A worked example: the owner's value is 0000, both slots name one live element of value 0011, and

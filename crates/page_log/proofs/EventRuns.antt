@@ -1,5 +1,5 @@
 -- Events that are read one after the other.
-use Rattle.std.proofs.Common.{◌≡◌, ◌≢◌, ◌==◌, true, false, ℕ, ◌+◌, ◌-◌, ◌<◌, ◌≤◌, List, [], ◌∷◌, ◌++◌, Option, Some, None, length, take, drop, refl, sym, ap, ◌∙◌, subst, arith, append_assoc, length-append, length-drop, append-nil}
+use Rattle.std.proofs.Common.{◌≡◌, ◌≢◌, ◌==◌, true, false, ℕ, ◌+◌, ◌-◌, ◌<◌, ◌≤◌, List, [], ◌∷◌, ◌++◌, Option, length, take, drop, refl, sym, ap, ◌∙◌, subst, arith, append_assoc, length-append, length-drop, append-nil}
 use Rattle.std.proofs.lemmas.List.{length-take}
 use Rattle.vec_event.specs.declared.fault.EventFault.{EventFault}
 use Rattle.vec_event.specs.declared.fault.EventFault.TheVariants.{Memory}
@@ -51,13 +51,13 @@ pub reads_one : (at : ℕ) (bytes left rest : List ℕ) (old now now' : List Pla
 reads_one at bytes left rest old now now' event so_far front is =
     let place = at + (length bytes - length left) in
     let all = ap length front.same ∙ length-append (spelling event) rest in record {
-  within = omega (arith, so_far.within, all);
-  more = so_far.more ++ (place, event) ∷ [];
-  items = is ∙ ap (λ xs. xs ++ (place, event) ∷ []) so_far.items ∙ append_assoc old so_far.more ((place, event) ∷ []);
-  goes_on = λ events bad are.
-    subst (λ xs. AreEvents at bytes xs bad) (sym (append_assoc so_far.more ((place, event) ∷ []) events))
-    (so_far.goes_on ((place, event) ∷ events) bad (refl, (rest, front, subst (λ i. AreEvents i rest events bad) (omega (arith, so_far.within, all)) are)));
-}
+      within = omega (arith, so_far.within, all);
+      more = so_far.more ++ (place, event) ∷ [];
+      items = is ∙ ap (λ xs. xs ++ (place, event) ∷ []) so_far.items ∙ append_assoc old so_far.more ((place, event) ∷ []);
+      goes_on = λ events bad are.
+          subst (λ xs. AreEvents at bytes xs bad) (sym (append_assoc so_far.more ((place, event) ∷ []) events))
+          (so_far.goes_on ((place, event) ∷ events) bad (refl, (rest, front, subst (λ i. AreEvents i rest events bad) (omega (arith, so_far.within, all)) are)));
+    }
 
 -- what a run gives that ends so
 pub ends : (at : ℕ) (bytes left : List ℕ) (old now : List Placed) (bad : Option ℕ) → IsReading at bytes left old now

@@ -1,13 +1,12 @@
 -- A batch by its front: its seal and its length.
-use Rattle.std.proofs.Common.{◌≡◌, ◌≢◌, ℕ, zero, suc, get_or, drop-drop, ◌+◌, ◌-◌, ◌<◌, ◌≤◌, ◌^◌, List, [], ◌∷◌, ◌++◌, length, take, drop, refl, sym, ap, ◌∙◌, subst, arith, append_assoc, length-append, length-drop, append-nil}
+use Rattle.std.proofs.Common.{◌≡◌, ◌≢◌, ℕ, zero, suc, get_or, drop-drop, ◌+◌, ◌-◌, ◌<◌, ◌≤◌, ◌^◌, List, [], ◌∷◌, ◌++◌, length, take, drop, refl, sym, ap, ◌∙◌, subst, arith, length-append, length-drop, append-nil}
 use Rattle.std.specs.Int.{w32, to_le_bytes, from_le_bytes}
-use Rattle.std.proofs.lemmas.List.{length-take, take-append-drop, take_at, drop_at}
+use Rattle.std.proofs.lemmas.List.{length-take, take-append-drop}
 use Rattle.std.proofs.lemmas.Nat.{from_le_bytes-to_le_bytes_4, le_bytes_4}
-use Rattle.page_log.specs.Batches.{IsBatch, IsOpenAt}
+use Rattle.page_log.specs.Batches.{IsBatch}
 use Rattle.page_log.specs.Steps.{IsFront, OnlyReads}
-use Rattle.vec_outside.specs.Disk.{Disk, Image, IsImage, IsKept, Elapses, LeavesOnly}
+use Rattle.vec_outside.specs.Disk.{Disk, Image, IsImage, IsKept, Elapses}
 use Rattle.vec_outside.proofs.Moments.{started, goes_on, kept_on, joined}
-use Rattle.vec_outside.specs.declared.disks.Area.{Area}
 
 -- ---- reads
 
@@ -68,13 +67,13 @@ pub batch_of : (area : List ℕ) (at len : ℕ) (bytes : List ℕ) → IsFront (
 batch_of area at len bytes front within is =
     let size : length bytes ≡ len = ap length is ∙ length-take len (drop (at + 5) area) ∙ omega (arith, within, length-drop (at + 5) area) in
     let behind : drop 5 (drop at area) ≡ bytes ++ drop len (drop (at + 5) area) =
-        drop-drop 5 at area ∙ sym (take-append-drop len (drop (at + 5) area)) ∙ ap (λ front. front ++ drop len (drop (at + 5) area)) (sym is) in record {
-  rest = drop len (drop (at + 5) area);
-  some = none_of bytes (omega (arith, size, front.some));
-  few = omega (arith, size, front.few);
-  same = sym (take-append-drop 5 (drop at area)) ∙ ap (λ first. first ++ drop 5 (drop at area)) front.same ∙ ap (λ last. 165 ∷ to_le_bytes w32 len ++ last) behind
-      ∙ ap (λ n. 165 ∷ to_le_bytes w32 n ++ (bytes ++ drop len (drop (at + 5) area))) (sym size);
-}
+    drop-drop 5 at area ∙ sym (take-append-drop len (drop (at + 5) area)) ∙ ap (λ front. front ++ drop len (drop (at + 5) area)) (sym is) in record {
+      rest = drop len (drop (at + 5) area);
+      some = none_of bytes (omega (arith, size, front.some));
+      few = omega (arith, size, front.few);
+      same = sym (take-append-drop 5 (drop at area)) ∙ ap (λ first. first ++ drop 5 (drop at area)) front.same ∙ ap (λ last. 165 ∷ to_le_bytes w32 len ++ last) behind
+          ∙ ap (λ n. 165 ∷ to_le_bytes w32 n ++ (bytes ++ drop len (drop (at + 5) area))) (sym size);
+    }
 
 small_take : (n : ℕ) (xs : List ℕ) → ((i : ℕ) → get_or xs i 0 < 256) → (i : ℕ) → get_or (take n xs) i 0 < 256
 small_take zero xs small i = omega arith
@@ -90,7 +89,7 @@ front_is front rest four behind seal len is open_ four_is behind_is size none le
     let small_rest : (i : ℕ) → get_or rest i 0 < 256 = λ i. subst (λ bytes. get_or bytes (suc i) 0 < 256) is (small (suc i)) in
     let four_small : (i : ℕ) → get_or four i 0 < 256 = subst (λ bytes. (i : ℕ) → get_or bytes i 0 < 256) (sym four_is) (small_take 4 rest small_rest) in
     let rest_is : rest ≡ four = sym (take-append-drop 4 rest) ∙ ap (λ bytes. take 4 rest ++ bytes) (sym behind_is ∙ none) ∙ append-nil (take 4 rest) ∙ sym four_is in record {
-  some = omega (arith, some);
-  few = few;
-  same = is ∙ ap (λ b. b ∷ rest) open_ ∙ ap (λ bytes. 165 ∷ bytes) (rest_is ∙ sym (le_bytes_4 four len four_size four_small len_is));
-}
+      some = omega (arith, some);
+      few = few;
+      same = is ∙ ap (λ b. b ∷ rest) open_ ∙ ap (λ bytes. 165 ∷ bytes) (rest_is ∙ sym (le_bytes_4 four len four_size four_small len_is));
+    }

@@ -1,12 +1,12 @@
 -- Batches that are read one after the other.
-use Rattle.std.proofs.Common.{◌≡◌, ◌≢◌, ◌⊎◌, inl, inr, ℕ, ◌+◌, ◌-◌, ◌<◌, ◌≤◌, List, [], ◌∷◌, ◌++◌, Option, Some, None, length, take, drop, refl, sym, ap, ◌∙◌, subst, arith, append_assoc, length-append, append-nil}
+use Rattle.std.proofs.Common.{◌≡◌, inl, inr, ℕ, ◌+◌, ◌<◌, List, [], ◌∷◌, ◌++◌, Option, Some, None, length, take, drop, refl, sym, ap, ◌∙◌, subst, arith, append_assoc, length-append, append-nil}
 use Rattle.std.specs.List.{flat_map}
 use Rattle.std.proofs.lemmas.List.{take_at}
 use Rattle.std.proofs.lemmas.Grind.{flat_map-append}
 use Rattle.page_log.specs.Batches.{Placed, Tail, Begins, AreEvents, AreBatches, IsBatch, IsRefused, IsOpenAt, IsLog, EndsBy, room_of}
-use Rattle.page_log.specs.Steps.{TakesWhole, TakesTooMuch, TakesPart, StopsAt, GoesOn, Ends}
+use Rattle.page_log.specs.Steps.{TakesTooMuch, TakesPart, StopsAt, GoesOn, Ends}
 use Rattle.page_log.specs.declared.batches.Run.{Run}
-use Rattle.page_log.proofs.Fronts.{front_of, one_front, open_of}
+use Rattle.page_log.proofs.Fronts.{front_of, one_front}
 use Rattle.vec_event.specs.Spelling.{spelling}
 use Rattle.std.specs.Int.{w32, to_le_bytes}
 use Rattle.page_log.proofs.EventRuns.{some_bytes}
@@ -36,7 +36,7 @@ are_unique at bytes (x ∷ xs) (y ∷ ys) bad bad' first second =
     let same = one_event x.1 y.1 first.1.0 second.1.0 a.typed a.writable b.typed b.writable (sym a.same ∙ b.same) in
     cons_placed x y xs ys (first.0 ∙ sym second.0) same.0
     (are_unique (at + length (spelling x.1)) first.1.0 xs ys bad bad' first.1.2
-      (subst (λ e. AreEvents (at + length (spelling e)) first.1.0 ys bad') (sym same.0) (subst (λ rest. AreEvents (at + length (spelling y.1)) rest ys bad') (sym same.1) second.1.2)))
+    (subst (λ e. AreEvents (at + length (spelling e)) first.1.0 ys bad') (sym same.0) (subst (λ rest. AreEvents (at + length (spelling y.1)) rest ys bad') (sym same.1) second.1.2)))
 
 one_batch : (area : List ℕ) (at : ℕ) (a b : List ℕ) → IsBatch area at a → IsBatch area at b → a ≡ b
 one_batch area at a b first second =
@@ -74,16 +74,22 @@ ends_over : (area : List ℕ) (old new : Run) (bytes : List ℕ) → IsBatch are
 ends_over area old new bytes batch t = record {
   last = [];
   events = t.events ∙ sym (append-nil old.events.items);
-  are = (t.end_is, subst (λ bad. EndsBy area old.end old.used (record { events = []; end = new.end; used = new.used; bad = new.bad }) bad) (sym t.bad_is)
-    (open_batch area old.end bytes batch, inl (record { refused = refused_over area old.end old.used bytes t.more t.bad batch t.are t.over; place_is = refl; none = refl; used_is = t.used })));
+  are = (
+    t.end_is,
+    subst (λ bad. EndsBy area old.end old.used (record { events = []; end = new.end; used = new.used; bad = new.bad }) bad) (sym t.bad_is)
+        (open_batch area old.end bytes batch, inl (record { refused = refused_over area old.end old.used bytes t.more t.bad batch t.are t.over; place_is = refl; none = refl; used_is = t.used })),
+  );
 }
 
 ends_within : (area : List ℕ) (old new : Run) (bytes : List ℕ) → IsBatch area old.end bytes → TakesPart old new bytes → Ends area old new
 ends_within area old new bytes batch t = record {
   last = t.more;
   events = t.events;
-  are = (t.end_is, subst (λ bad. EndsBy area old.end old.used (record { events = t.more; end = new.end; used = new.used; bad = new.bad }) bad) (sym t.bad_is)
-    (open_batch area old.end bytes batch, inr (record { bytes = bytes; batch = batch; events = t.are; used_is = t.used; fits = t.fits })));
+  are = (
+    t.end_is,
+    subst (λ bad. EndsBy area old.end old.used (record { events = t.more; end = new.end; used = new.used; bad = new.bad }) bad) (sym t.bad_is)
+        (open_batch area old.end bytes batch, inr (record { bytes = bytes; batch = batch; events = t.are; used_is = t.used; fits = t.fits })),
+  );
 }
 
 pub ends_at : (area : List ℕ) (old new : Run) (bytes : List ℕ) → IsBatch area old.end bytes → StopsAt old new bytes → Ends area old new
@@ -108,14 +114,18 @@ run_begins area run none used = record {
 pub run_on : (area : List ℕ) (at : ℕ) (old new : Run) → IsRun area at old → GoesOn area old new → IsRun area at new
 run_on area at old new so_far on =
     let w = on.whole in record {
-  batches = so_far.batches ++ w.more ∷ [];
-  events = w.events ∙ ap (λ xs. xs ++ w.more) so_far.events ∙ ap (λ xs. flat_map (λ batch. batch) so_far.batches ++ xs) (sym (append-nil w.more)) ∙ sym (flat_map-append (λ batch. batch) so_far.batches (w.more ∷ []));
-  goes_on = λ rest tail are.
-    subst (λ batches. AreBatches area at 0 batches tail) (sym (append_assoc so_far.batches (w.more ∷ []) rest))
-    (so_far.goes_on (w.more ∷ rest) tail
-      (on.bytes, on.batch, w.are, omega (arith, w.used, w.fits),
-       subst (λ end. AreBatches area end (old.used + room_of w.more) rest tail) w.end_is (subst (λ used. AreBatches area new.end used rest tail) w.used are)));
-}
+      batches = so_far.batches ++ w.more ∷ [];
+      events = w.events ∙ ap (λ xs. xs ++ w.more) so_far.events ∙ ap (λ xs. flat_map (λ batch. batch) so_far.batches ++ xs) (sym (append-nil w.more)) ∙ sym (flat_map-append (λ batch. batch) so_far.batches (w.more ∷ []));
+      goes_on = λ rest tail are.
+          subst (λ batches. AreBatches area at 0 batches tail) (sym (append_assoc so_far.batches (w.more ∷ []) rest))
+          (so_far.goes_on (w.more ∷ rest) tail (
+            on.bytes,
+            on.batch,
+            w.are,
+            omega (arith, w.used, w.fits),
+            subst (λ end. AreBatches area end (old.used + room_of w.more) rest tail) w.end_is (subst (λ used. AreBatches area new.end used rest tail) w.used are),
+          ));
+    }
 
 pub run_ends : (area : List ℕ) (at : ℕ) (old new : Run) → IsRun area at old → Ends area old new → IsLog area at new.events.items new.end new.used new.bad
 run_ends area at old new so_far e = record {

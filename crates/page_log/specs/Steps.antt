@@ -1,7 +1,7 @@
 -- What finding and reading one batch makes of what was read before.
 use Rattle.std.specs.Prelude.{◌≡◌, ◌⊎◌, ℕ, ◌+◌, ◌<◌, ◌≤◌, ◌∷◌, ◌^◌, ◌++◌, List, [], Option, Some, None, length}
 use Rattle.std.specs.Int.{w32, to_le_bytes}
-use Rattle.page_log.specs.Batches.{Placed, Tail, AreEvents, AreBatches, IsBatch, IsOpenAt, room_of}
+use Rattle.page_log.specs.Batches.{Placed, AreEvents, AreBatches, IsBatch, IsOpenAt, room_of}
 use Rattle.page_log.specs.declared.finding.Found.{Found}
 use Rattle.page_log.specs.declared.finding.Found.TheVariants.{Closed, Bad, Batch}
 use Rattle.vec_outside.specs.Disk.{Disk, IsImage, IsKept, LeavesOnly}

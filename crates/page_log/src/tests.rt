@@ -71,21 +71,93 @@ struct Row {
 }
 
 const ROWS: [Row; 9] = [
-    Row { place: 65, byte: 0, len: 66, events: 2, end: 65, used: 70, bad: None },
+    Row {
+        place: 65,
+        byte: 0,
+        len: 66,
+        events: 2,
+        end: 65,
+        used: 70,
+        bad: None,
+    },
     // The log's end is the area's.
-    Row { place: 65, byte: 0, len: 65, events: 2, end: 65, used: 70, bad: None },
+    Row {
+        place: 65,
+        byte: 0,
+        len: 65,
+        events: 2,
+        end: 65,
+        used: 70,
+        bad: None,
+    },
     // A closed seal.
-    Row { place: 0, byte: 0xA4, len: 66, events: 0, end: 0, used: 0, bad: None },
+    Row {
+        place: 0,
+        byte: 0xA4,
+        len: 66,
+        events: 0,
+        end: 0,
+        used: 0,
+        bad: None,
+    },
     // The next seal is open, and nothing follows it.
-    Row { place: 65, byte: 0xA5, len: 66, events: 2, end: 65, used: 70, bad: Some(65) },
+    Row {
+        place: 65,
+        byte: 0xA5,
+        len: 66,
+        events: 2,
+        end: 65,
+        used: 70,
+        bad: Some(65),
+    },
     // A byte more than the events have, which is no event's; one more, which the area has not; and none.
-    Row { place: 1, byte: 61, len: 66, events: 2, end: 0, used: 70, bad: Some(65) },
-    Row { place: 1, byte: 62, len: 66, events: 0, end: 0, used: 0, bad: Some(0) },
-    Row { place: 1, byte: 0, len: 66, events: 0, end: 0, used: 0, bad: Some(0) },
+    Row {
+        place: 1,
+        byte: 61,
+        len: 66,
+        events: 2,
+        end: 0,
+        used: 70,
+        bad: Some(65),
+    },
+    Row {
+        place: 1,
+        byte: 62,
+        len: 66,
+        events: 0,
+        end: 0,
+        used: 0,
+        bad: Some(0),
+    },
+    Row {
+        place: 1,
+        byte: 0,
+        len: 66,
+        events: 0,
+        end: 0,
+        used: 0,
+        bad: Some(0),
+    },
     // The second event is of no kind.
-    Row { place: 57, byte: 13, len: 66, events: 1, end: 0, used: 57, bad: Some(57) },
+    Row {
+        place: 57,
+        byte: 13,
+        len: 66,
+        events: 1,
+        end: 0,
+        used: 57,
+        bad: Some(57),
+    },
     // The area ends within the length.
-    Row { place: 65, byte: 0, len: 4, events: 0, end: 0, used: 0, bad: Some(0) },
+    Row {
+        place: 65,
+        byte: 0,
+        len: 4,
+        events: 0,
+        end: 0,
+        used: 0,
+        bad: Some(0),
+    },
 ];
 
 #[test]

@@ -26,7 +26,8 @@ pub record SomeState (base : Graph) (acts : List Act) (low high : ℕ) (P : Grap
 
 -- between these positions each layer of each node that was live at the first was clean at some position, and so was the entry point
 pub record WereCleaned (base : Graph) (acts : List Act) (low high : ℕ) : Type 0 where
-  pub layers : (at : Tid) (layer : ℕ) → IsLiveAt (state_after base acts low) at layer → SomeState base acts low high (λ g. IsCleanAt g at layer)
+  pub layers : (at : Tid) (layer : ℕ) → IsLiveAt (state_after base acts low) at layer
+      → SomeState base acts low high (λ g. IsCleanAt g at layer)
   pub entry : SomeState base acts low high IsEntryClean
 
 -- Repairing is done: the desk's phase Repair stands, and after its act the desk took Scan alone, and has released it. From the position of

@@ -55,7 +55,8 @@ IsPlaced g at level spot =
     (place_on g at.block level ≡ Some spot) ⊎ ((new_place g level ≡ Some spot) × (g.blocks + new_blocks g level ≤ MOST_BLOCKS))
 
 -- A new node: at a place for its level, with a value of the index's length, and neighbours that the desk knows.
-pub record IsPutAllowed (base : Graph) (acts : List Act) (desk : ℕ) (at list_at : Tid) (version level : ℕ) (bits : List Bool) (lists : List (Option Tid)) : Type 0 where
+pub record IsPutAllowed (base : Graph) (acts : List Act) (desk : ℕ) (at list_at : Tid) (version level : ℕ) (bits : List Bool)
+    (lists : List (Option Tid)) : Type 0 where
   pub update : Holds acts desk Update
   pub placed : IsPlaced (after base acts) at level (record { at = at; list_at = list_at; version = version })
   pub as_long : length bits ≡ (after base acts).params.bits
@@ -87,7 +88,8 @@ pub record IsLinkAllowed (base : Graph) (acts : List Act) (desk : ℕ) (at list_
   pub known : Knows base acts desk to (slot_layer (after base acts).params.m owner.level slot)
 
 -- All slots of the node come to name other places, each of which the desk knows up to the slot's layer.
-pub record IsRelistAllowed (base : Graph) (acts : List Act) (desk : ℕ) (at list_at : Tid) (version : ℕ) (lists : List (Option Tid)) : Type 0 where
+pub record IsRelistAllowed (base : Graph) (acts : List Act) (desk : ℕ) (at list_at : Tid) (version : ℕ)
+    (lists : List (Option Tid)) : Type 0 where
   pub update : Holds acts desk Update
   pub owner : Node
   pub there : IsThere (after base acts) at version owner

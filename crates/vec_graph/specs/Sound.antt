@@ -16,8 +16,8 @@ pub record IsAsHigh (g : Graph) (at : Tid) (layer : ℕ) : Type 0 where
   pub stands : node_at g at ≡ Some node
   pub reaches : layer ≤ node.level
 
--- Each place that is reached from the roots holds a node that is not deleted, and each member of a layer of such a node reaches up to that layer.
--- A doomed node that is not reached may name anything.
+-- Each place that is reached from the roots holds a node that is not deleted, and each member of a layer of such a node
+-- reaches up to that layer. A doomed node that is not reached may name anything.
 pub record IsSoundFrom (g : Graph) (Root : Tid → Type 0) : Type 0 where
   pub not_deleted : (at : Tid) → IsReachedFrom g Root at → IsUndeletedAt g at
   pub high_enough : (at : Tid) (layer : ℕ) (to : Tid) → IsReachedFrom g Root at → HasMember g at layer to → IsAsHigh g to layer

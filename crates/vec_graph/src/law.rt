@@ -32,6 +32,7 @@ ghost use Rattle.vec_graph.specs.Examples.{first_insert, idle_vacuum};
 ghost use Rattle.std.specs.FinMap as map;
 
 use crate::graph::Graph;
+use index_sizes::MOST_BITS;
 use vec_history::Act;
 
 /// The members of a layer, by the layer of each slot, are those that the layer's part
@@ -98,35 +99,42 @@ pub fn law_lasting(base: &Graph, acts: &[Act])
         → NoneFrom acts.now p (λ a. IsMarkAt at a.event) → node_at (state_after base.now acts.now p) at ≡ Some was → was.deleted ≡ false
         → IsSameAt (after base.now acts.now) at was }
     ensures ids { (p : ℕ) (at : Tids) (ids : List HeapIds) → p ≤ length acts.now → IsOnBlocks (state_after base.now acts.now p)
-        → NoneFrom acts.now p (λ a. IsIdsEndAt at a.event) → HasIdsAt (state_after base.now acts.now p) at ids → HasIdsAt (after base.now acts.now) at ids }
+        → NoneFrom acts.now p (λ a. IsIdsEndAt at a.event) → HasIdsAt (state_after base.now acts.now p) at ids
+        → HasIdsAt (after base.now acts.now) at ids }
     ensures doomed { (p : ℕ) (at : Tids) → p ≤ length acts.now → IsOnBlocks (state_after base.now acts.now p)
-        → NoneFrom acts.now p (λ a. IsMarkAt at a.event) → IsDoomedAt (state_after base.now acts.now p) at → IsDoomedAt (after base.now acts.now) at }
+        → NoneFrom acts.now p (λ a. IsMarkAt at a.event) → IsDoomedAt (state_after base.now acts.now p) at
+        → IsDoomedAt (after base.now acts.now) at }
     ensures live { (p layer : ℕ) (at : Tids) → p ≤ length acts.now → IsOnBlocks (state_after base.now acts.now p)
-        → NoneFrom acts.now p (λ a. IsDrop a.event) → IsLiveAt (state_after base.now acts.now p) at layer → IsLiveAt (after base.now acts.now) at layer }
+        → NoneFrom acts.now p (λ a. IsDrop a.event) → IsLiveAt (state_after base.now acts.now p) at layer
+        → IsLiveAt (after base.now acts.now) at layer }
 {}
 
 /// What a desk has by its own acts lasts while it goes on: what it knows until its own next act of Update, and its
 /// phase until it ends that itself. A node that it puts it knows up to its level.
 pub fn law_own(base: &Graph, acts: &[Act])
-    ensures knows { (n desk layer : ℕ) (at : Tids) → n ≤ length acts.now → NoneFrom acts.now n (λ a. (a.desk ≡ desk) × IsOfGate Update a.event)
+    ensures knows { (n desk layer : ℕ) (at : Tids) → n ≤ length acts.now
+        → NoneFrom acts.now n (λ a. (a.desk ≡ desk) × IsOfGate Update a.event)
         → Knows base.now (take n acts.now) desk at layer → Knows base.now acts.now desk at layer }
     ensures put { (desk version level : ℕ) (at list_at : Tids) (id : HeapIds) (bits : List Bool) (lists : List (Option Tids))
         → IsPutAllowed base.now acts.now desk at list_at version level bits lists
         → Knows base.now (acts.now ++ act_of desk (event.Put at list_at version level id bits lists) ∷ []) desk at level }
     ensures phase { IsLegal base.now acts.now → (n desk : ℕ) (stage : Stages) → n ≤ length acts.now
-        → NoneFrom acts.now n (λ a. (a.desk ≡ desk) × IsOfVacuum a.event) → IsInPhase (take n acts.now) desk stage → IsInPhase acts.now desk stage }
+        → NoneFrom acts.now n (λ a. (a.desk ≡ desk) × IsOfVacuum a.event) → IsInPhase (take n acts.now) desk stage
+        → IsInPhase acts.now desk stage }
 {}
 
 /// What a vacuum may rest on from a position in one of its phases until it ends that, of a legal history whose nodes
 /// stand on their blocks there: live nodes stay live and no node becomes doomed, but for its own Drops; doomed
-/// nodes stay so, but for its own Marks. The maker of a phase may end it in just one way. And while a desk holds Update alone, no other desk makes a node live.
+/// nodes stay so, but for its own Marks. The maker of a phase may end it in just one way. And while a desk holds Update
+/// alone, no other desk makes a node live.
 pub fn law_vacuum(base: &Graph, acts: &[Act])
     requires { IsLegal base.now acts.now }
     ensures live { (n desk layer : ℕ) (stage : Stages) (at : Tids) → n ≤ length acts.now → IsOnBlocks (state_after base.now acts.now n)
         → IsInPhase (take n acts.now) desk stage → NoneFrom acts.now n (λ a. (a.desk ≡ desk) × IsOfVacuum a.event)
         → NoneFrom acts.now n (λ a. (a.desk ≡ desk) × IsDrop a.event)
         → IsLiveAt (state_after base.now acts.now n) at layer → IsLiveAt (after base.now acts.now) at layer }
-    ensures no_more_doomed { (n desk : ℕ) (stage : Stages) (at : Tids) → n ≤ length acts.now → IsOnBlocks (state_after base.now acts.now n)
+    ensures no_more_doomed { (n desk : ℕ) (stage : Stages) (at : Tids) → n ≤ length acts.now
+        → IsOnBlocks (state_after base.now acts.now n)
         → IsInPhase (take n acts.now) desk stage → NoneFrom acts.now n (λ a. (a.desk ≡ desk) × IsOfVacuum a.event)
         → NoneFrom acts.now n (λ a. (a.desk ≡ desk) × IsDrop a.event)
         → IsDoomedAt (after base.now acts.now) at → IsDoomedAt (state_after base.now acts.now n) at }
@@ -136,9 +144,12 @@ pub fn law_vacuum(base: &Graph, acts: &[Act])
         → IsDoomedAt (state_after base.now acts.now n) at → IsDoomedAt (after base.now acts.now) at }
     ensures ends { (desk : ℕ) (stage : Stages) → IsInPhase acts.now desk stage
         → IsVacuumEndAllowed base.now acts.now desk ⊎ IsCancelAllowed base.now acts.now desk stage }
-    ensures ends_once { (desk : ℕ) (stage : Stages) → IsVacuumEndAllowed base.now acts.now desk → IsCancelAllowed base.now acts.now desk stage → ⊥ }
-    ensures no_more_live { (desk : ℕ) (at : Tids) (a : Act) → IsOnBlocks (after base.now acts.now) → IsAllowed base.now acts.now a → a.desk ≢ desk
-        → HoldsAs acts.now desk Update Alone → IsLiveAt (after base.now (acts.now ++ a ∷ [])) at 0 → IsLiveAt (after base.now acts.now) at 0 }
+    ensures ends_once { (desk : ℕ) (stage : Stages) → IsVacuumEndAllowed base.now acts.now desk
+        → IsCancelAllowed base.now acts.now desk stage → ⊥ }
+    ensures no_more_live { (desk : ℕ) (at : Tids) (a : Act) → IsOnBlocks (after base.now acts.now) → IsAllowed base.now acts.now a
+        → a.desk ≢ desk
+        → HoldsAs acts.now desk Update Alone → IsLiveAt (after base.now (acts.now ++ a ∷ [])) at 0
+        → IsLiveAt (after base.now acts.now) at 0 }
 {}
 
 /// Where the nodes of the graph at a position stand on its blocks, a place at which a node stands there has one from
@@ -153,10 +164,12 @@ pub fn law_levels(base: &Graph, acts: &[Act])
 pub fn law_examples()
     // The element of 4 bits has 81 bytes and the list of a node of level 0, where m is 2, has 28, each
     // rounded up to eights and with an item pointer of 4; they fit one page.
-    ensures small { (g : Graphs) → g.params.bits ≡ 4 → g.params.m ≡ 2 → (element_need g ≡ 92) × (list_need g 0 ≡ 36) × (fits_one_page g 0 ≡ true) }
+    ensures small { (g : Graphs) → g.params.bits ≡ 4 → g.params.m ≡ 2
+        → (element_need g ≡ 92) × (list_need g 0 ≡ 36) × (fits_one_page g 0 ≡ true) }
 
     // The longest values and lists do not fit one page together.
-    ensures large { (g : Graphs) → g.params.bits ≡ 64000 → g.params.m ≡ 100 → (element_need g ≡ 8084) × (list_need g 0 ≡ 1212) × (fits_one_page g 0 ≡ false) }
+    ensures large { (g : Graphs) → g.params.bits ≡ MOST_BITS → g.params.m ≡ 100
+        → (element_need g ≡ 8084) × (list_need g 0 ≡ 1212) × (fits_one_page g 0 ≡ false) }
 
     // Of the six slots of a node of level 1, where m is 2, the first two are layer 1's.
     ensures layers { (slot_layer 2 1 0 ≡ 1) × (slot_layer 2 1 1 ≡ 1) × (slot_layer 2 1 2 ≡ 0) × (slot_layer 2 1 5 ≡ 0) }
@@ -198,6 +211,8 @@ pub fn law_later(base: &Graph, acts: &[Act])
 /// meets it and is granted what a step's words say is allowed. Settling and faults are not spoken of.
 pub fn law_asked(base: &Graph, acts: &[Act])
     requires { HasAllSlots (after base.now acts.now) }
-    ensures asked { (desk : ℕ) (e : Events) → (IsOfAll e → ⊥) → IsEventAllowed base.now acts.now desk e → IsAsked base.now acts.now desk e }
-    ensures allowed { (desk : ℕ) (e : Events) → IsAsked base.now acts.now desk e → IsGranted base.now acts.now desk e → IsEventAllowed base.now acts.now desk e }
+    ensures asked { (desk : ℕ) (e : Events) → (IsOfAll e → ⊥) → IsEventAllowed base.now acts.now desk e
+        → IsAsked base.now acts.now desk e }
+    ensures allowed { (desk : ℕ) (e : Events) → IsAsked base.now acts.now desk e → IsGranted base.now acts.now desk e
+        → IsEventAllowed base.now acts.now desk e }
 {}

@@ -5,7 +5,7 @@ use crate::*;
 use bit_code::read_bits;
 use std::alloc::{AllocError, Global};
 use std::test::*;
-use vec_history::{Act, Event};
+use vec_history::{Act, Event, law_alone, law_cut};
 use vec_names::{HeapId, Kind, Listed, Mapped, Ops, Params, Tid};
 
 /// An index that has no node, whose values have 4 places, with m 2.
@@ -37,6 +37,8 @@ fn empty(alloc: Global) -> Graph
 fn laws_before_any_act(rt: HostRuntime) {
     let base = empty(rt.alloc());
     let acts: [Act; 0] = [];
+    law_cut(&base, &acts);
+    law_alone(&base, &acts);
     law_entries(&base, &acts);
     law_places(&base, &acts);
     law_shaped(&base, &acts);

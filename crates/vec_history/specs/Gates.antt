@@ -27,7 +27,8 @@ Holds acts desk gate = (hold : Hold) × HoldsAs acts desk gate hold
 
 -- no other desk holds the gate, or this hold and all others are Shared
 abbrev pub AgreesWithOthers : List Act → ℕ → Gate → Hold → Type 0
-AgreesWithOthers acts desk gate hold = (other : ℕ) (theirs : Hold) → other ≢ desk → HoldsAs acts other gate theirs → (hold ≡ Shared) × (theirs ≡ Shared)
+AgreesWithOthers acts desk gate hold = (other : ℕ) (theirs : Hold) → other ≢ desk → HoldsAs acts other gate theirs
+    → (hold ≡ Shared) × (theirs ≡ Shared)
 
 -- The desk does not hold the gate, and the hold agrees with those of the other desks.
 pub record IsGateAllowed (acts : List Act) (desk : ℕ) (gate : Gate) (hold : Hold) : Type 0 where
@@ -36,4 +37,5 @@ pub record IsGateAllowed (acts : List Act) (desk : ℕ) (gate : Gate) (hold : Ho
 
 -- each taking of a gate was allowed after the acts before it
 abbrev pub AreGatesAllowed : List Act → Type 0
-AreGatesAllowed acts = (n desk : ℕ) (gate : Gate) (hold : Hold) → IsActAt acts n desk (event.Gate gate hold) → IsGateAllowed (take n acts) desk gate hold
+AreGatesAllowed acts = (n desk : ℕ) (gate : Gate) (hold : Hold) → IsActAt acts n desk (event.Gate gate hold)
+    → IsGateAllowed (take n acts) desk gate hold

@@ -52,7 +52,8 @@ abbrev pub IsDrop : Event → Type 0
 IsDrop (event.Drop at version gone) = ⊤
 IsDrop _ = ⊥
 
--- Removing is done: the desk's phase Remove stands, and after its act and after the last Drop the desk took Update alone, and has released it.
+-- Removing is done: the desk's phase Remove stands, and after its act and after the last Drop the desk took Update
+-- alone, and has released it.
 -- `position` is right after the last such Gate. Whoever holds Update from then on took it behind the last Drop.
 pub record IsRemoved (acts : List Act) (desk position : ℕ) : Type 0 where
   pub begun : ℕ

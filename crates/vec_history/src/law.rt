@@ -30,7 +30,8 @@ pub fn law_cut<R: Rules>(base: &R, acts: &[Act])
 /// desk once took alone has taken it no earlier.
 pub fn law_alone<R: Rules>(base: &R, acts: &[Act])
     requires { IsLegalBy (R.allows base.now) acts.now }
-    ensures only { (gate : Gates) (hold : Holding) (desk other : ℕ) → other ≢ desk → HoldsAs acts.now desk gate Alone → HoldsAs acts.now other gate hold → ⊥ }
+    ensures only { (gate : Gates) (hold : Holding) (desk other : ℕ) → other ≢ desk → HoldsAs acts.now desk gate Alone
+        → HoldsAs acts.now other gate hold → ⊥ }
     ensures not_before { (gate : Gates) (hold : Holding) (desk other j k : ℕ) → IsActAt acts.now k other (event.Gate gate Alone)
         → HoldsSince acts.now desk gate hold j → j < k → ⊥ }
 {}
@@ -38,7 +39,8 @@ pub fn law_alone<R: Rules>(base: &R, acts: &[Act])
 /// After any acts a desk holds a gate in one way at most, since one act; one phase stands at most, which one desk
 /// made by one act; and removing ended at one position at most.
 pub fn law_one_at_a_time(acts: &[Act])
-    ensures hold { (desk : ℕ) (gate : Gates) (h1 h2 : Holding) (k1 k2 : ℕ) → HoldsSince acts.now desk gate h1 k1 → HoldsSince acts.now desk gate h2 k2
+    ensures hold { (desk : ℕ) (gate : Gates) (h1 h2 : Holding) (k1 k2 : ℕ) → HoldsSince acts.now desk gate h1 k1
+        → HoldsSince acts.now desk gate h2 k2
         → (k1 ≡ k2) × (h1 ≡ h2) }
     ensures phase { (d1 d2 : ℕ) (s1 s2 : Stages) (k1 k2 : ℕ) → PhaseSince acts.now d1 s1 k1 → PhaseSince acts.now d2 s2 k2
         → (k1 ≡ k2) × (d1 ≡ d2) × (s1 ≡ s2) }
@@ -53,14 +55,17 @@ pub fn law_one_more(acts: &[Act], act: &Act)
         → HoldsSince acts.now desk gate hold k ↔ HoldsSince (acts.now ++ act.now ∷ []) desk gate hold k }
     ensures taken { (desk : ℕ) (gate : Gates) (hold : Holding) → act.now ≡ act_of desk (event.Gate gate hold)
         → HoldsSince (acts.now ++ act.now ∷ []) desk gate hold (length acts.now) }
-    ensures given { (desk : ℕ) (gate : Gates) → act.now ≡ act_of desk (event.Ungate gate) → Holds (acts.now ++ act.now ∷ []) desk gate → ⊥ }
+    ensures given { (desk : ℕ) (gate : Gates) → act.now ≡ act_of desk (event.Ungate gate)
+        → Holds (acts.now ++ act.now ∷ []) desk gate → ⊥ }
 
     // A phase ends by the next one, or with the vacuum.
     ensures phase { (desk : ℕ) (stage : Stages) (k : ℕ) → (IsOfVacuum act.now.event → ⊥)
         → PhaseSince acts.now desk stage k ↔ PhaseSince (acts.now ++ act.now ∷ []) desk stage k }
-    ensures begun { (desk : ℕ) (stage : Stages) → act.now ≡ act_of desk (event.Phase stage) → PhaseSince (acts.now ++ act.now ∷ []) desk stage (length acts.now) }
+    ensures begun { (desk : ℕ) (stage : Stages) → act.now ≡ act_of desk (event.Phase stage)
+        → PhaseSince (acts.now ++ act.now ∷ []) desk stage (length acts.now) }
     ensures ended { (desk : ℕ) → (act.now ≡ act_of desk event.VacuumEnd) → IsAPhaseStanding (acts.now ++ act.now ∷ []) → ⊥ }
-    ensures cancelled { (desk : ℕ) (stage : Stages) → (act.now ≡ act_of desk (event.Cancel stage)) → IsAPhaseStanding (acts.now ++ act.now ∷ []) → ⊥ }
+    ensures cancelled { (desk : ℕ) (stage : Stages) → (act.now ≡ act_of desk (event.Cancel stage))
+        → IsAPhaseStanding (acts.now ++ act.now ∷ []) → ⊥ }
 
     // A barrier is new only where the desk gives the gate back: then each time that it took it alone is one.
     ensures barrier { (desk : ℕ) (gate : Gates) (k : ℕ) → (act.now ≢ act_of desk (event.Ungate gate))
@@ -69,10 +74,12 @@ pub fn law_one_more(acts: &[Act], act: &Act)
         → IsActAt acts.now k desk (event.Gate gate Alone) ↔ IsBarrier (acts.now ++ act.now ∷ []) desk gate k }
 
     // Removing is done, and stays so, up to the next phase, Drop or barrier of Update.
-    ensures removed { (desk position : ℕ) → (IsOfVacuum act.now.event → ⊥) → (IsDrop act.now.event → ⊥) → (act.now ≢ act_of desk (event.Ungate Update))
+    ensures removed { (desk position : ℕ) → (IsOfVacuum act.now.event → ⊥) → (IsDrop act.now.event → ⊥)
+        → (act.now ≢ act_of desk (event.Ungate Update))
         → IsRemoved acts.now desk position ↔ IsRemoved (acts.now ++ act.now ∷ []) desk position }
     ensures removal { (desk begun k : ℕ) → PhaseSince acts.now desk Remove begun → HoldsSince acts.now desk Update Alone k → begun < k
-        → NoneAfter acts.now k (λ a. IsDrop a.event) → act.now ≡ act_of desk (event.Ungate Update) → IsRemoved (acts.now ++ act.now ∷ []) desk (k + 1) }
+        → NoneAfter acts.now k (λ a. IsDrop a.event) → act.now ≡ act_of desk (event.Ungate Update)
+        → IsRemoved (acts.now ++ act.now ∷ []) desk (k + 1) }
     ensures dropped { (desk position : ℕ) → IsDrop act.now.event → IsRemoved (acts.now ++ act.now ∷ []) desk position → ⊥ }
     ensures restarted { (desk position : ℕ) → IsOfVacuum act.now.event → IsRemoved (acts.now ++ act.now ∷ []) desk position → ⊥ }
     ensures lasting { lasting_events (acts.now ++ act.now ∷ []) ≡ lasting_events acts.now + (if is_lasting act.now.event then 1 else 0) }

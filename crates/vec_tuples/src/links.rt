@@ -11,8 +11,8 @@ ghost use Rattle.vec_tuples.specs.Answers.{IsReading, BeginsSome};
 ghost use Rattle.vec_tuples.specs.declared.links.Links.{Links};
 
 use crate::fault::TupleFault;
-use crate::slots::{put_slots, slot_count};
-use byte_fields::{Halt, byte_from, put, slots};
+use crate::slots::slot_count;
+use byte_fields::{Halt, byte_from, put, put_slots, slots};
 use std::alloc::Global;
 use vec_names::{Listed, Params, Tid};
 

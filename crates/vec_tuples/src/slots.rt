@@ -1,16 +1,13 @@
-//! The slots of a neighbour tuple, read from the front of the bytes and put at their end.
+//! The slots of a neighbour tuple, read from the front of the bytes.
 
-ghost use Rattle.std.specs.Prelude.{◌≡◌, ◌≢◌, ◌≤◌, ◌<◌, ◌+◌, ◌*◌, ◌^◌, ◌++◌, length, vec_len, vec_capacity};
-ghost use Rattle.std.specs.List.{flat_map};
-ghost use Rattle.vec_names.specs.Pointer.{tid_option_bytes};
+ghost use Rattle.std.specs.Prelude.{◌≡◌, ◌≢◌, length};
 ghost use Rattle.byte_fields.specs.Reading.{times, slot_of};
 ghost use Rattle.byte_fields.specs.Answers.{Gives};
 ghost use Rattle.vec_tuples.specs.Reading.{slot_count, is_slot_count};
 ghost use Rattle.vec_tuples.specs.Answers.{Passes};
 
-use byte_fields::{Stop, put, slot_of};
+use byte_fields::{Stop, slot_of};
 use index_sizes::MOST_SLOTS;
-use vec_names::Tid;
 
 /// The number of slots, which a level must have beside this `m`.
 #[tactic(auto, unfolding(crate::specs::Reading::slot_count, byte_fields::specs::Reading::field))]
@@ -67,14 +64,4 @@ pub fn skip_slots(deleted: bool, count: u16, bytes: &[u8]) -> Result<&[u8], Stop
         rest = after;
     }
     Ok(rest)
-}
-
-/// Puts the slots at the end of bytes that have room for them.
-pub fn put_slots(into: &mut Vec<u8>, places: &[Option<Tid>])
-    requires { vec_len into.old + 6 * length places.now ≤ vec_capacity into.old }
-    ensures items { into.new.items ≡ into.old.items ++ flat_map tid_option_bytes places.now }
-{
-    'places: for place in places {
-        put(into, &Tid::spelled_option(*place));
-    }
 }

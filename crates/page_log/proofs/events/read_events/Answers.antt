@@ -1,4 +1,4 @@
-use Rattle.std.proofs.Common.{◌≡◌, ◌∙◌, Some, None, refl, sym}
+use Rattle.std.proofs.Common.{◌∙◌, Some, None, refl, sym}
 use Rattle.page_log.proofs.EventRuns.{ends, shorter, begin_none, not_empty, empty}
 use Rattle.page_log.proofs.events.read_events.Goals as goal
 

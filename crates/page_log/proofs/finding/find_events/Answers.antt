@@ -1,4 +1,4 @@
-use Rattle.std.proofs.Common.{◌≡◌, ◌∙◌, ◌-◌, ◌<◌, ◌≤◌, arith, subst}
+use Rattle.std.proofs.Common.{arith}
 use Rattle.page_log.proofs.Fronts.{open_of, none_past_end, batch_of}
 use Rattle.page_log.proofs.finding.find_events.Goals as goal
 

@@ -1,4 +1,4 @@
-use Rattle.std.proofs.Common.{◌≡◌, sym, subst}
+use Rattle.std.proofs.Common.{sym, subst}
 use Rattle.page_log.specs.Batches.{IsBatch}
 use Rattle.page_log.specs.Steps.{IsFound}
 use Rattle.page_log.proofs.Runs.{closed, ends_bad, ends_at}

@@ -1,4 +1,4 @@
-use Rattle.std.proofs.Common.{◌≡◌, ◌∙◌, ◌+◌, sym, ap, length, subst, arith}
+use Rattle.std.proofs.Common.{subst, arith}
 use Rattle.page_log.specs.Steps.{GoesOn, Ends}
 use Rattle.page_log.proofs.Fronts.{reads_on}
 use Rattle.page_log.proofs.Runs.{run_on, run_ends}
@@ -9,18 +9,18 @@ returns-then-not-branch-clause-log g c told =
     let area = (g.D.Disks.disk c.args.disks.now).seen c.args.area in
     let same = c.loop-run.invariant.only.kept.seen c.args.area in
     let ends : Ends area c.loop-run.run c.read_batch.new.run =
-        subst (λ area. Ends area c.loop-run.run c.read_batch.new.run) same (c.in_ok-read_batch.ensures.stops told c.if-not-branch.true) in
+    subst (λ area. Ends area c.loop-run.run c.read_batch.new.run) same (c.in_ok-read_batch.ensures.stops told c.if-not-branch.true) in
     run_ends area c.args.at c.loop-run.run c.read_batch.new.run (c.loop-run.invariant.run told) ends
 
 pub loop-run-preserved : goal.loop-run-preserved
 loop-run-preserved g c =
     let area = (g.D.Disks.disk c.args.disks.now).seen c.args.area in
     let same = c.loop-run.invariant.only.kept.seen c.args.area in record {
-  used = c.in_ok-read_batch.ensures.used c.if-not-branch.false;
-  fine = c.in_ok-read_batch.ensures.fine c.if-not-branch.false;
-  size = c.loop-run.invariant.size;
-  run = λ told. run_on area c.args.at c.loop-run.run c.read_batch.new.run (c.loop-run.invariant.run told)
-      (subst (λ area. GoesOn area c.loop-run.run c.read_batch.new.run) same (c.in_ok-read_batch.ensures.whole told c.if-not-branch.false));
-  only = reads_on _ _ _ c.loop-run.invariant.only c.read_batch.ensures.only;
-  later = omega (arith, c.loop-run.invariant.later, c.read_batch.ensures.cause.later);
-}
+      used = c.in_ok-read_batch.ensures.used c.if-not-branch.false;
+      fine = c.in_ok-read_batch.ensures.fine c.if-not-branch.false;
+      size = c.loop-run.invariant.size;
+      run = λ told. run_on area c.args.at c.loop-run.run c.read_batch.new.run (c.loop-run.invariant.run told)
+          (subst (λ area. GoesOn area c.loop-run.run c.read_batch.new.run) same (c.in_ok-read_batch.ensures.whole told c.if-not-branch.false));
+      only = reads_on _ _ _ c.loop-run.invariant.only c.read_batch.ensures.only;
+      later = omega (arith, c.loop-run.invariant.later, c.read_batch.ensures.cause.later);
+    }
