@@ -27,3 +27,4 @@ pub mod RedoneOnce
 pub mod MarkFits
 pub mod OneBlock
 pub mod PutOldEffect
+pub mod PutOldFits

@@ -31,20 +31,20 @@ use Rattle.graph_pages.proofs.RoleFits.{of_graph_kind, no_more, tuple_there, nod
 
 -- ---- an event with two places, on one block or on two
 
-two_first : (a b block number : ℕ) (first second : PageChange) (c d : Content) → (a == block) ≡ true → (b == block) ≡ false → first c ≡ Some d
+pub two_first : (a b block number : ℕ) (first second : PageChange) (c d : Content) → (a == block) ≡ true → (b == block) ≡ false → first c ≡ Some d
     → option_map (numbered number) (at_two a first b second block c) ≡ Some (numbered number d)
 two_first a b block number first second c d e f is = rw (e, f, is) refl
 
-two_second : (a b block number : ℕ) (first second : PageChange) (c d : Content) → (a == block) ≡ false → (b == block) ≡ true → second c ≡ Some d
+pub two_second : (a b block number : ℕ) (first second : PageChange) (c d : Content) → (a == block) ≡ false → (b == block) ≡ true → second c ≡ Some d
     → option_map (numbered number) (at_two a first b second block c) ≡ Some (numbered number d)
 two_second a b block number first second c d e f is = rw (e, f, is) refl
 
-two_both : (a b block number : ℕ) (first second : PageChange) (c d : Content) → (a == block) ≡ true → (b == block) ≡ true
+pub two_both : (a b block number : ℕ) (first second : PageChange) (c d : Content) → (a == block) ≡ true → (b == block) ≡ true
     → option_and_then second (first c) ≡ Some d → option_map (numbered number) (at_two a first b second block c) ≡ Some (numbered number d)
 two_both a b block number first second c d e f is = rw (e, f, is) refl
 
 -- an element and a list stand at two offsets
-two_offsets : (p : Params) (c : Content) (off list_off : ℕ) (e : Element) (l : Links) → element_at p c off ≡ Some e → links_at p c list_off ≡ Some l
+pub two_offsets : (p : Params) (c : Content) (off list_off : ℕ) (e : Element) (l : Links) → element_at p c off ≡ Some e → links_at p c list_off ≡ Some l
     → off ≡ list_off → ⊥
 two_offsets p c off list_off e l element_is list_is same =
     let x = then_is (λ x. in_whole (element p x)) (item_at c.items off) e element_is in
@@ -53,7 +53,7 @@ two_offsets p c off list_off e l element_is list_is same =
     absurd cc
 
 -- a block that is touched is one of the two
-not_touched : (a b block : ℕ) → (a == block) ≡ false → (b == block) ≡ false → Contains (a ∷ b ∷ []) block → ⊥
+pub not_touched : (a b block : ℕ) → (a == block) ≡ false → (b == block) ≡ false → Contains (a ∷ b ∷ []) block → ⊥
 not_touched a b block e f (zero, h, same) = let t = eq-eqb a block same in absurd cc
 not_touched a b block e f (suc zero, h, same) = let t = eq-eqb b block same in absurd cc
 not_touched a b block e f (suc (suc i), h, same) = absurd (omega (arith, h))

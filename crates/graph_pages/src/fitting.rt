@@ -3,18 +3,30 @@
 //! An event fits where each block that it touches has a page, and redo makes another page of that one. What a law asks is what
 //! the rules ask of the node in the graph, as far as redo tests it; of the hint redo asks that it is at most 32,768.
 
-ghost use Rattle.std.specs.Prelude.{◌≡◌, ◌≤◌, ◌<◌, ◌^◌, ℕ, List, All, Option, None, length};
+ghost use Rattle.std.specs.Prelude.{◌≡◌, ◌≤◌, ◌<◌, ◌^◌, ℕ, Bool, true, List, All, Option, Some, None, length};
 ghost use Rattle.vec_names.specs.declared.tid.Tid.{Tid as Place};
 ghost use Rattle.vec_names.specs.declared.heap_id.HeapId.{HeapId};
-ghost use Rattle.vec_history.specs.declared.event.Event.TheVariants.{Join, Link, Relist, Drop, Mark, Entry, Hint};
+ghost use Rattle.vec_history.specs.declared.event.Event.TheVariants.{Put, Join, Link, Relist, Drop, Mark, Entry, Hint};
 ghost use Rattle.page_bytes.specs.Content.{Content, IsPage};
 ghost use Rattle.vec_graph.specs.declared.node.Node.{Node};
 ghost use Rattle.vec_graph.specs.declared.graph.Graph.{Graph};
+ghost use Rattle.vec_graph.specs.Graph.{node_at};
 ghost use Rattle.vec_graph.specs.Rules.{IsThere};
+ghost use Rattle.index_sizes.specs.Sizes.{slots_of_level};
 ghost use Rattle.graph_pages.specs.Standing.{Stands};
 ghost use Rattle.graph_pages.specs.Fitting.{FitsEach};
 
 use index_sizes::MOST_BLOCKS;
+
+/// A law, and no work. A new node fits the pages of a node that is deleted, whose places, version and level it takes, where its value is
+/// of the index's length and it has the slots of its level.
+pub fn law_put_again_fits()
+    ensures { (pages : List Content) (g : Graph) (at list_at : Place) (version level : ℕ) (id : HeapId) (bits : List Bool)
+        (lists : List (Option Place)) (n : Node) → All IsPage pages → Stands pages g → node_at g at ≡ Some n → n.list_at ≡ list_at
+        → n.deleted ≡ true → n.version ≡ version → n.level ≡ level → length bits ≡ g.params.bits
+        → length lists ≡ slots_of_level g.params.m level
+        → FitsEach pages g.params (Put at list_at version level id bits lists) }
+{}
 
 /// A law, and no work. A node's deletion fits the pages of its element and of its neighbour tuple, where the node at the place is of
 /// the named version and is not deleted, and the neighbour tuple is the node's.
