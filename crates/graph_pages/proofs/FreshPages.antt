@@ -1,6 +1,6 @@
 -- Pages with fresh ones behind them stand for the same graph, of more blocks.
-use Rattle.std.proofs.Common.{◌≡◌, inl, inr, ℕ, zero, suc, ◌+◌, ◌<◌, ◌≤◌, Bool, true, false, ◌&&◌, ◌||◌, ◌==◌, List, [], ◌∷◌, ◌++◌, length, replicate, Option, Some, None, refl, sym, ap, subst, ◌∙◌, arith}
-use Rattle.std.specs.Prelude.{slice_get, flat_map, nat_le, nat_lt}
+use Rattle.std.proofs.Common.{◌≡◌, inl, inr, ℕ, zero, suc, ◌+◌, ◌<◌, ◌≤◌, Bool, true, false, ◌||◌, ◌==◌, List, [], ◌∷◌, ◌++◌, length, replicate, Option, Some, None, refl, sym, ap, ◌∙◌, arith}
+use Rattle.std.specs.Prelude.{slice_get, flat_map, nat_le}
 use Rattle.std.specs.List.{list_all}
 use Rattle.std.specs.Option.{option_map, option_and_then}
 use Rattle.std.proofs.lemmas.Bool.{cases_lt, and_parts, and_from, ltb-true, lt-ltb, leb-true, le-leb}
@@ -14,11 +14,9 @@ use Rattle.vec_names.specs.declared.params.Params.{Params}
 use Rattle.page_bytes.specs.declared.kind.PageKind.TheVariants.{Hnsw}
 use Rattle.page_bytes.specs.Content.{Content, item_at}
 use Rattle.vec_tuples.specs.declared.element.Element.{Element}
-use Rattle.vec_tuples.specs.declared.element.ElementHead.{ElementHead}
 use Rattle.vec_tuples.specs.declared.links.Links.{Links}
 use Rattle.vec_tuples.specs.Spelling.{head_of_element}
 use Rattle.vec_tuples.specs.Reading.{element, links}
-use Rattle.vec_graph.specs.declared.node.Node.{Node}
 use Rattle.vec_graph.specs.declared.graph.Graph.{Graph}
 use Rattle.page_redo.specs.PageTuples.{in_whole, is_graph_page}
 use Rattle.graph_pages.specs.Standing.{item_in, read_in, element_in, head_in, links_in, root_on, root, is_of_level, is_entry, is_root, is_element, pointers_on, pointers, times_in, is_slot_below, is_list, is_node_item, IsNodePage, node_with as made_of, node_in, Stands}

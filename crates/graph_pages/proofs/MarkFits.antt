@@ -1,5 +1,5 @@
 -- That a node is deleted fits the pages of its element and of its list, which may be one page.
-use Rattle.std.proofs.Common.{◌≡◌, ℕ, zero, suc, ◌-◌, ◌≤◌, ◌&&◌, ◌==◌, Bool, true, false, List, [], ◌∷◌, ◌++◌, length, replicate, Option, Some, None, refl, sym, ap, subst, ◌∙◌, arith}
+use Rattle.std.proofs.Common.{◌≡◌, ℕ, zero, suc, ◌==◌, Bool, true, false, List, [], ◌∷◌, length, replicate, Some, None, refl, sym, ap, subst, ◌∙◌, arith}
 use Rattle.std.specs.Prelude.{slice_get, All, Contains}
 use Rattle.std.specs.Option.{option_map, option_and_then}
 use Rattle.std.proofs.lemmas.Bool.{and_from, eq-eqb, eqb-true}
@@ -22,7 +22,7 @@ use Rattle.page_redo.specs.PageTuples.{in_whole, with_item, with_head, head_chan
 use Rattle.page_redo.specs.PageChanges.{PageChange, on_graph, is_current, marked, emptied}
 use Rattle.page_redo.specs.Redo.{at_two, numbered}
 use Rattle.page_redo.proofs.Pairs.{mark_pair}
-use Rattle.graph_pages.specs.Standing.{element_in, links_in, node_with as made_of, Stands}
+use Rattle.graph_pages.specs.Standing.{links_in, Stands}
 use Rattle.graph_pages.specs.Growing.{fresh_page}
 use Rattle.graph_pages.specs.Fitting.{FitsEach}
 use Rattle.graph_pages.proofs.Given.{then_is}

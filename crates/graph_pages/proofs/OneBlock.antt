@@ -1,9 +1,8 @@
 -- Redo on all blocks, of an event that touches one.
-use Rattle.std.proofs.Common.{◌≡◌, inl, inr, ℕ, zero, suc, ◌<◌, List, [], ◌∷◌, length, get_or, Option, Some, refl, sym, ap, subst, ◌∙◌, arith, lit<}
+use Rattle.std.proofs.Common.{◌≡◌, inl, inr, ℕ, zero, suc, ◌<◌, List, [], ◌∷◌, length, get_or, Some, refl, sym, ap, subst, ◌∙◌, arith, lit<}
 use Rattle.std.specs.Prelude.{slice_get, slice_set, All, Contains}
 use Rattle.std.proofs.lemmas.Bool.{cases_eq}
 use Rattle.std.proofs.lemmas.Option.{slice_get-get_or}
-use Rattle.vec_names.specs.declared.params.Params.{Params}
 use Rattle.vec_history.specs.declared.event.Event.{Event}
 use Rattle.page_bytes.specs.declared.kind.PageKind.TheVariants.{Hnsw}
 use Rattle.page_bytes.specs.Content.{Content, IsPage}

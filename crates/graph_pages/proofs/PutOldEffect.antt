@@ -1,7 +1,7 @@
 -- Redo of a new node at the places of a deleted one: its element and its neighbour tuple, on one page or on two.
-use Rattle.std.proofs.Common.{◌≡◌, ℕ, zero, suc, ◌+◌, ◌*◌, ◌/◌, ◌<◌, ◌≤◌, ◌&&◌, ◌==◌, max, Bool, true, false, List, [], ◌∷◌, length, Option, Some, None, refl, sym, ap, subst, ◌∙◌, arith, inl, inr, get_or, eqb}
+use Rattle.std.proofs.Common.{◌≡◌, ℕ, ◌+◌, ◌*◌, ◌/◌, ◌<◌, ◌≤◌, ◌&&◌, ◌==◌, max, Bool, true, false, List, [], ◌∷◌, length, Option, Some, None, refl, sym, ap, subst, ◌∙◌, arith, inl, inr, get_or, eqb}
 use Rattle.std.specs.Prelude.{slice_get, slice_set, All, Contains, nat_le}
-use Rattle.std.specs.List.{list_all, AllByRecursion}
+use Rattle.std.specs.List.{AllByRecursion}
 use Rattle.std.specs.Option.{option_map, option_and_then}
 use Rattle.std.specs.FinMap.{insert}
 use Rattle.std.proofs.Math.Nat.{mul-div_cancel}
@@ -11,7 +11,6 @@ use Rattle.index_sizes.specs.Sizes.{slots_of_level}
 use Rattle.index_sizes.specs.declared.limits.TheConstants.{MOST_SLOTS}
 use Rattle.byte_fields.proofs.EachField.{some_is}
 use Rattle.vec_names.specs.declared.tid.Tid.{Tid}
-use Rattle.vec_names.specs.declared.heap_id.HeapId.{HeapId}
 use Rattle.vec_names.specs.declared.params.Kind.{Kind}
 use Rattle.vec_names.specs.declared.params.Kind.TheVariants.{Hnsw, Ivf}
 use Rattle.vec_names.specs.declared.params.Params.{Params}
@@ -21,7 +20,7 @@ use Rattle.vec_history.specs.declared.event.Event.TheVariants.{Put}
 use Rattle.page_bytes.specs.Content.{Content, IsPage, item_at}
 use Rattle.vec_tuples.specs.declared.element.Element.{Element}
 use Rattle.vec_tuples.specs.declared.links.Links.{Links}
-use Rattle.vec_tuples.specs.Spelling.{element_bytes, head_of_element, IsElement, links_bytes, links_with, IsLinks, IsSlotCount, IsSlotOf}
+use Rattle.vec_tuples.specs.Spelling.{element_bytes, IsElement, links_bytes, IsLinks, IsSlotCount, IsSlotOf}
 use Rattle.vec_tuples.specs.Reading.{element, links}
 use Rattle.vec_tuples.proofs.ElementLaws.{element_field}
 use Rattle.vec_tuples.proofs.LinksLaws.{links_field}
@@ -31,13 +30,13 @@ use Rattle.vec_graph.specs.declared.graph.Graph.{Graph}
 use Rattle.vec_graph.specs.Graph.{node_at}
 use Rattle.vec_graph.specs.Effect.{effect, with_node, changed_from, changed}
 use Rattle.page_redo.specs.PageTuples.{in_whole, with_item, element_at, links_at, is_graph, is_graph_page}
-use Rattle.page_redo.specs.PageChanges.{PageChange, NewNode, new_node, is_node, new_element, new_links, is_old_element, are_old_links, put_over, put, put_element, put_links, if_so}
+use Rattle.page_redo.specs.PageChanges.{PageChange, NewNode, is_node, new_element, new_links, is_old_element, are_old_links, put_over, put, put_element, put_links, if_so}
 use Rattle.page_redo.specs.Redo.{at_two, numbered}
 use Rattle.page_redo.proofs.ItemLaws.{whole_spelled, whole_read}
 use Rattle.page_redo.proofs.Others.{set_apart}
 use Rattle.page_redo.proofs.Putting.{set_here, with_item_others}
 use Rattle.page_redo.proofs.Pairs.{no_list}
-use Rattle.graph_pages.specs.Standing.{element_in, links_in, item_in, is_slot_below, node_with as made_of, Stands}
+use Rattle.graph_pages.specs.Standing.{element_in, links_in, item_in, node_with as made_of, Stands}
 use Rattle.graph_pages.specs.Effects.{AreRedone}
 use Rattle.graph_pages.proofs.Given.{then_is, map_is, if_is, when_is, item_bytes}
 use Rattle.graph_pages.proofs.KindsApart.{list_is_no_element, element_is_no_list}

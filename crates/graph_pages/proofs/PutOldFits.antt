@@ -1,5 +1,5 @@
 -- That a new node takes the places of a deleted one fits the pages of its element and of its list, which may be one page.
-use Rattle.std.proofs.Common.{◌≡◌, ℕ, ◌+◌, ◌-◌, ◌*◌, ◌/◌, ◌<◌, ◌≤◌, ◌&&◌, ◌==◌, max, Bool, true, false, List, [], ◌∷◌, ◌++◌, length, replicate, Option, Some, None, refl, sym, ap, subst, ◌∙◌, arith, eqb}
+use Rattle.std.proofs.Common.{◌≡◌, ℕ, ◌+◌, ◌-◌, ◌*◌, ◌/◌, ◌&&◌, ◌==◌, max, Bool, true, false, List, [], ◌∷◌, ◌++◌, length, replicate, Option, Some, refl, sym, ap, subst, ◌∙◌, arith}
 use Rattle.std.specs.Prelude.{slice_get, All, Contains, nat_le}
 use Rattle.std.specs.Option.{option_map, option_and_then}
 use Rattle.std.proofs.lemmas.Bool.{and_from, eq-eqb, eqb-true, le-leb}
@@ -24,13 +24,13 @@ use Rattle.vec_graph.specs.declared.node.Node.{Node}
 use Rattle.vec_graph.specs.declared.graph.Graph.{Graph}
 use Rattle.vec_graph.specs.Graph.{node_at}
 use Rattle.page_redo.specs.PageTuples.{in_whole, with_item, element_at, links_at, is_graph, is_graph_page}
-use Rattle.page_redo.specs.PageChanges.{PageChange, NewNode, is_node, new_element, new_links, is_old_element, are_old_links, put_over, put, put_element, put_links, if_so}
+use Rattle.page_redo.specs.PageChanges.{NewNode, is_node, new_element, new_links, is_old_element, are_old_links, put_over, put, put_element, put_links, if_so}
 use Rattle.page_redo.specs.Redo.{at_two, numbered}
 use Rattle.page_redo.proofs.ItemLaws.{whole_spelled}
 use Rattle.page_redo.proofs.Lengths.{length-element_bytes}
 use Rattle.page_redo.proofs.Pairs.{put_pair}
 use Rattle.page_redo.proofs.Putting.{with_item_others}
-use Rattle.graph_pages.specs.Standing.{element_in, links_in, node_with as made_of, Stands}
+use Rattle.graph_pages.specs.Standing.{links_in, Stands}
 use Rattle.graph_pages.specs.Growing.{fresh_page}
 use Rattle.graph_pages.specs.Fitting.{FitsEach}
 use Rattle.graph_pages.proofs.Given.{then_is, item_bytes}
