@@ -1,8 +1,6 @@
 -- What holds of each entry of a map holds at each place, and back.
-use Rattle.std.proofs.Common.{◌≡◌, ◌↔◌, true, false, cond, ◌&&◌, T, List, [], ◌∷◌, Some, None, refl, sym, ap, subst, ◌∙◌, arith}
-use Rattle.std.specs.declared.cmp.Ordering.{Ordering}
-use Rattle.std.specs.declared.cmp.Ordering.TheVariants.{Less, Equal, Greater}
-use Rattle.std.specs.Ordering.{is_lt, is_eq, eq_by_cmp}
+use Rattle.std.proofs.Common.{◌≡◌, ◌↔◌, true, false, cond, T, List, [], ◌∷◌, Some, refl, sym, ap, subst, ◌∙◌, arith}
+use Rattle.std.specs.Ordering.{is_eq, eq_by_cmp}
 use Rattle.std.specs.Cmp.{tied_itself}
 use Rattle.std.specs.FinMap as fin
 use Rattle.std.specs.FinMap.Entries.{find, is_sorted, below_all}
@@ -12,7 +10,7 @@ use Rattle.vec_names.specs.Order.{tid_cmp, tid_cmp_total, tid_cmp_exact}
 use Rattle.vec_graph.specs.declared.node.Node.{Node}
 use Rattle.vec_graph.specs.declared.graph.Graph.{Graph}
 use Rattle.vec_graph.specs.Graph.{node_at, IsLive, IsLiveAt, IsDoomed, IsDoomedAt}
-use Rattle.vec_graph.proofs.Copies.{equal, not_equal, left, right, missing}
+use Rattle.vec_graph.proofs.Copies.{equal, left, right, missing}
 use Rattle.graph_judge.specs.Knowable.{EachEntry}
 
 at_each : (P : Tid → Node → Type 0) (es : List (Tid × Node)) → EachEntry P es → (at : Tid) (n : Node) → find tid_cmp at es ≡ Some n → P at n

@@ -1,4 +1,4 @@
-use Rattle.std.proofs.Common.{◌≡◌, Some, sym, ap, ◌∙◌}
+use Rattle.std.proofs.Common.{Some, sym, ap, ◌∙◌}
 use Rattle.std.proofs.lemmas.Option.{same_Some}
 use Rattle.graph_judge.proofs.SamePlaces.{same_place}
 use Rattle.graph_judge.proofs.node_rules.is_there.Goals as goal
