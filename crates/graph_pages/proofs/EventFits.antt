@@ -19,7 +19,7 @@ use Rattle.graph_pages.specs.Standing.{node_with as made_of, Stands}
 use Rattle.graph_pages.specs.Fitting.{FitsEach}
 use Rattle.graph_pages.proofs.RoleFits.{each_of_one, meta_role_fits, of_graph_kind, head_role_fits, links_role_fits}
 
-current : (deleted : Bool) (found version : ℕ) → deleted ≡ false → found ≡ version → is_current deleted found version ≡ true
+pub current : (deleted : Bool) (found version : ℕ) → deleted ≡ false → found ≡ version → is_current deleted found version ≡ true
 current deleted found version new same = rw (new, eq-eqb found version same) refl
 
 -- the element of a node that is there

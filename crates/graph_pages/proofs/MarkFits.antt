@@ -19,7 +19,7 @@ use Rattle.vec_graph.specs.declared.node.Node.{Node}
 use Rattle.vec_graph.specs.declared.graph.Graph.{Graph}
 use Rattle.vec_graph.specs.Rules.{IsThere}
 use Rattle.page_redo.specs.PageTuples.{in_whole, with_item, with_head, head_changed, links_changed, element_at, links_at, is_graph, is_graph_page}
-use Rattle.page_redo.specs.PageChanges.{PageChange, on_graph, is_current, marked, emptied}
+use Rattle.page_redo.specs.PageChanges.{PageChange, on_graph, marked, emptied}
 use Rattle.page_redo.specs.Redo.{at_two, numbered}
 use Rattle.page_redo.proofs.Pairs.{mark_pair}
 use Rattle.graph_pages.specs.Standing.{links_in, Stands}
@@ -27,6 +27,7 @@ use Rattle.graph_pages.specs.Growing.{fresh_page}
 use Rattle.graph_pages.specs.Fitting.{FitsEach}
 use Rattle.graph_pages.proofs.Given.{then_is}
 use Rattle.graph_pages.proofs.KindsApart.{meta_is_no_element, meta_is_no_list, element_is_no_list}
+use Rattle.graph_pages.proofs.EventFits.{current}
 use Rattle.graph_pages.proofs.RoleFits.{of_graph_kind, no_more, tuple_there, node_there, list_alike}
 
 -- ---- an event with two places, on one block or on two
@@ -113,9 +114,6 @@ module _ (pages : List Content) (p : Params) (wrap number block : ℕ) (at list_
     two_second at.block list_at.block block number first second d (with_item d list_at.off (links_bytes m)) is_at is_list second_is,
   )
   redone_at false false is_at is_list touches = absurd (not_touched at.block list_at.block block is_at is_list touches)
-
-current : (deleted : Bool) (found version : ℕ) → deleted ≡ false → found ≡ version → is_current deleted found version ≡ true
-current deleted found version new same = rw (new, eq-eqb found version same) refl
 
 module _ (pages : List Content) (g : Graph) (all : All IsPage pages) (s : Stands pages g) where
   mark_fits_there : (at list_at : Tid) (version : ℕ) (n : Node) → IsThere g at version n → n.list_at ≡ list_at → FitsEach pages s.meta.params (Mark at list_at version)

@@ -1,5 +1,5 @@
 -- Redo on all blocks, of an event that touches one.
-use Rattle.std.proofs.Common.{◌≡◌, inl, inr, ℕ, zero, suc, ◌<◌, List, [], ◌∷◌, length, get_or, Some, refl, sym, ap, subst, ◌∙◌, arith, lit<}
+use Rattle.std.proofs.Common.{◌≡◌, inl, inr, ℕ, ◌<◌, List, [], ◌∷◌, length, get_or, Some, refl, sym, ap, subst, ◌∙◌, arith, lit<}
 use Rattle.std.specs.Prelude.{slice_get, slice_set, All, Contains}
 use Rattle.std.proofs.lemmas.Bool.{cases_eq}
 use Rattle.std.proofs.lemmas.Option.{slice_get-get_or}
@@ -15,10 +15,7 @@ use Rattle.graph_pages.specs.Standing.{Stands}
 use Rattle.graph_pages.specs.Effects.{RedoIsEffect, AreRedone}
 use Rattle.graph_pages.specs.Growing.{fresh_page}
 use Rattle.graph_pages.proofs.RedoneOnce.{same_all}
-
-only : (a block : ℕ) → Contains (a ∷ []) block → a ≡ block
-only a block (zero, h, same) = same
-only a block (suc i, h, same) = absurd (omega (arith, h))
+use Rattle.graph_pages.proofs.RoleFits.{only}
 
 module _ (pages after : List Content) (g : Graph) (event : Event) (wrap number a : ℕ) (touches : touched event g.params ≡ a ∷ []) (within : a < length pages)
     (f : AreRedone g.params wrap number event pages after) where

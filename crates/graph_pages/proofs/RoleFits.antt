@@ -46,7 +46,7 @@ no_more pages v =
     let none : length pages - length pages ≡ 0 = omega arith in
     ap (λ n. pages ++ replicate n v) none ∙ append-nil pages
 
-only : (a block : ℕ) → Contains (a ∷ []) block → a ≡ block
+pub only : (a block : ℕ) → Contains (a ∷ []) block → a ≡ block
 only a block (zero, h, same) = same
 only a block (suc i, h, same) = absurd (omega (arith, h))
 
