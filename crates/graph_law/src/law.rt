@@ -25,8 +25,8 @@ ghost use Rattle.graph_law.specs.Standing.{IsSinceMark, IsCleanFrom};
 ghost use Rattle.vec_history.specs.Phases.{IsBehindDrops};
 ghost use Rattle.vec_graph.specs.Lasting.{IsMarkAt, IsSameAt};
 
-use vec_history::Act;
 use vec_graph::Graph;
+use vec_history::Act;
 
 /// From a shaped and sound base every state of a legal history is shaped and sound.
 pub fn law_sound(base: &Graph, acts: &[Act])

@@ -7,8 +7,7 @@ ghost use Rattle.ivf_graph.specs.Legal.{IsAllowed, IsLegal};
 use crate::graph::IvfGraph;
 use crate::rules::is_allowed;
 use std::alloc::Global;
-use vec_history::Act;
-use vec_history::AuditFault;
+use vec_history::{Act, AuditFault};
 
 /// Judges the acts of an index of lists that begins at this base: whether each was allowed after the acts
 /// before it. `Illegal` names the first that was not. Where memory is wanting nothing is said of the acts. No rule of an

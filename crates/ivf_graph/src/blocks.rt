@@ -4,10 +4,10 @@ ghost use Rattle.std.specs.Prelude.{◌≡◌, ◌==◌, ◌≤◌, ◌↔◌, I
 ghost use Rattle.std.specs.Option.{option_copied, option_map};
 ghost use Rattle.ivf_graph.specs.Graph.{row_need as need_of_row, rows_on as rows_of_block, HasRoom, last_block};
 
-use index_sizes::{MOST_BITS, PAGE_ROOM, entry_size, item_need};
 use crate::graph::IvfGraph;
 use crate::list::IvfList;
 use bit_code::Bits;
+use index_sizes::{MOST_BITS, PAGE_ROOM, entry_size, item_need};
 use vec_names::{HeapId, Listed};
 
 /// The rows of a block, if it stands in the chain.

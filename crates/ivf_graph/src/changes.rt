@@ -6,10 +6,10 @@ ghost use Rattle.vec_names.specs.declared.heap_id.HeapId.{HeapId as HeapIds};
 ghost use Rattle.ivf_graph.specs.Effect.{effect, row_change, changed_part, with_rows, changed, grown, aimed, others};
 ghost use Rattle.std.specs.Prelude.{map};
 
-use index_sizes::MOST_BLOCKS;
 use crate::graph::IvfGraph;
 use crate::list::IvfList;
 use bit_code::Bits;
+use index_sizes::MOST_BLOCKS;
 use std::alloc::{AllocError, Global};
 use std::mem;
 use vec_history::Event;
@@ -133,7 +133,7 @@ impl IvfGraph {
     /// Makes of this index what the event makes of it. Only memory can be wanting; the index may then be anything.
     pub fn apply(&mut self, event: &Event, alloc: Global) -> Result<(), AllocError>
         requires { (list last block : ℕ) (id : HeapIds) (bits : List Bool) → event.now ≡ Event.IvfGrow list last block id bits
-        → block < MOST_BLOCKS }
+            → block < MOST_BLOCKS }
         ensures { OnOk result (self.new ≡ effect event.now self.old) }
     {
         match event {
@@ -152,13 +152,7 @@ impl IvfGraph {
                 id,
                 bits,
             } => {
-                grow(
-                    alloc,
-                    &mut self.lists,
-                    *list,
-                    *block,
-                    (*id, bits.copied()?),
-                )?;
+                grow(alloc, &mut self.lists, *list, *block, (*id, bits.copied()?))?;
                 self.blocks = self.blocks.max(*block + 1);
                 Ok(())
             }

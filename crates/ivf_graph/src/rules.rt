@@ -5,12 +5,11 @@ ghost use Rattle.std.specs.List.Sorted.{IsStrictlyIncreasing};
 ghost use Rattle.ivf_graph.specs.Graph.{IsOfChain};
 ghost use Rattle.ivf_graph.specs.Rules.{IsAddAllowed, IsGrowAllowed, IsCutAllowed, IsAimAllowed, IsEventAllowed};
 
-use index_sizes::MOST_BLOCKS;
 use crate::blocks::{has_room, is_as_long, is_last, rows_on};
 use crate::graph::IvfGraph;
 use bit_code::Bits;
-use vec_history::{Act, Event, Gate};
-use vec_history::{holds_alone, may_fault, may_give_back, may_settle, may_take};
+use index_sizes::MOST_BLOCKS;
+use vec_history::{Act, Event, Gate, holds_alone, may_fault, may_give_back, may_settle, may_take};
 use vec_names::{HeapId, Listed};
 
 /// Whether a row may be added on the block.

@@ -1,8 +1,8 @@
 use super::*;
 use bit_code::{Bits, read_bits};
+use index_sizes::{MOST_BITS, MOST_BLOCKS};
 use std::alloc::Global;
 use std::test::*;
-use index_sizes::{MOST_BITS, MOST_BLOCKS};
 use vec_history::{Act, Event, Gate, Hold, Stage, law_alone, law_cut};
 use vec_names::{HeapId, Listed};
 
