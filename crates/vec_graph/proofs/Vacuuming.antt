@@ -30,7 +30,6 @@ module _ (acts : List Act) (desk another : ℕ) (other : another ≢ desk) where
   pub its_phase : (stage other_stage : Stage) → IsInPhase acts desk stage → IsInPhase acts another other_stage → ⊥
   its_phase stage other_stage p q = other (one_phase acts another desk other_stage stage q.0 p.0 q.1 p.1).1
 
-
 module _ (base : Graph) (acts : List Act) (desk another : ℕ) (other : another ≢ desk) where
   pub no_vacuum : (e : Event) → IsEventAllowed base acts another e → (stage : Stage) → IsInPhase acts desk stage → IsOfVacuum e → ⊥
   no_vacuum (Phase stages.Remove) ok stage p of = ok.no_phase (desk, stage, p)

@@ -19,8 +19,9 @@ mod places;
 
 pub use graph::Graph;
 pub use law::{
-    law_asked, law_entries, law_examples, law_first_insert, law_idle_vacuum, law_lasting, law_later,
-    law_layers, law_levels, law_live, law_own, law_places, law_shaped, law_told, law_vacuum,
+    law_asked, law_entries, law_examples, law_first_insert, law_idle_vacuum, law_lasting,
+    law_later, law_layers, law_levels, law_live, law_own, law_places, law_shaped, law_told,
+    law_vacuum,
 };
 pub use liveness::{doomed_at, is_doomed, is_live, live_at};
 pub use node::Node;

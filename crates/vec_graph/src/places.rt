@@ -8,9 +8,7 @@ ghost use Rattle.vec_graph.specs.Places.{element_need, list_need, taken_on, room
 use crate::graph::Graph;
 use crate::node::Node;
 use crate::place::Place;
-use index_sizes::{
-    LAST_BLOCK, PAGE_ROOM, element_size, item_need, links_size, slots_of_level,
-};
+use index_sizes::{LAST_BLOCK, PAGE_ROOM, element_size, item_need, links_size, slots_of_level};
 use vec_names::Tid;
 
 /// The highest offset on a page.

@@ -1,6 +1,6 @@
 use super::*;
-use std::test::*;
 use crate::{Act, Event, Gate, Hold, Stage};
+use std::test::*;
 use vec_names::Tid;
 
 // The laws hold before any act.

@@ -10,5 +10,5 @@ returns-clause-only g c =
 pub returns-clause-not_before : goal.returns-clause-not_before
 returns-clause-not_before g c = λ gate hold desk other j k taken holds less.
     let no_earlier = not_before_alone c.args.acts.now (λ n desk gate hold is. g.R.Rules.allows_gates c.args.base.now _ desk gate hold (allowed_at _ c.args.acts.now n _ c.requires is))
-        gate hold desk other j k taken holds in
+    gate hold desk other j k taken holds in
     absurd (omega arith)
