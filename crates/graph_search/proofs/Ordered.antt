@@ -9,7 +9,7 @@ use Rattle.bit_dist.specs.Orders.{dist_cmp_total}
 use Rattle.list_values.proofs.Ranks.{rises_ranked, rises_at}
 use Rattle.neighbour_pick.specs.declared.found.Found.{Found}
 use Rattle.neighbour_pick.proofs.Choosing.{All_of, ranked_all, got_all}
-use Rattle.neighbour_pick.proofs.Selecting.{in_whole}
+use Rattle.list_values.proofs.Parts.{in_whole}
 use Rattle.neighbour_pick.specs.Order.{Candidate, candidate_of, candidate_cmp}
 use Rattle.graph_search.specs.Reads.{Look, Answer}
 use Rattle.graph_search.specs.Search.{is_before, is_live, is_among, known, found_in, only_ef, Start, LayerSearch}
