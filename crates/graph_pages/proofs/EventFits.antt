@@ -9,7 +9,8 @@ use Rattle.vec_history.specs.declared.event.Event.TheVariants.{Join, Link, Relis
 use Rattle.page_bytes.specs.Content.{Content, IsPage}
 use Rattle.vec_tuples.specs.declared.element.Element.{Element}
 use Rattle.vec_tuples.specs.declared.links.Links.{Links}
-use Rattle.vec_tuples.specs.Spelling.{is_level, head_with, links_with}
+use Rattle.byte_fields.specs.Levels.{is_level}
+use Rattle.vec_tuples.specs.Spelling.{head_with, links_with}
 use Rattle.vec_graph.specs.declared.node.Node.{Node}
 use Rattle.vec_graph.specs.declared.graph.Graph.{Graph}
 use Rattle.vec_graph.specs.Rules.{IsThere}

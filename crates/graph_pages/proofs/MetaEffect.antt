@@ -9,7 +9,8 @@ use Rattle.vec_names.specs.declared.params.Params.{Params}
 use Rattle.page_bytes.specs.Content.{Content, IsPage, item_at}
 use Rattle.vec_tuples.specs.declared.meta.Meta.{Meta}
 use Rattle.vec_tuples.specs.declared.element.Element.{Element}
-use Rattle.vec_tuples.specs.Spelling.{IsMeta, IsLevelOf, is_level, meta_bytes, head_of_element}
+use Rattle.byte_fields.specs.Levels.{is_level}
+use Rattle.vec_tuples.specs.Spelling.{IsMeta, IsLevelOf, meta_bytes, head_of_element}
 use Rattle.vec_tuples.specs.Reading.{meta, element, links}
 use Rattle.vec_tuples.proofs.MetaLaws.{meta_field}
 use Rattle.vec_tuples.proofs.ElementLaws.{element_field}

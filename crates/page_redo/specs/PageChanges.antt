@@ -12,7 +12,8 @@ use Rattle.vec_tuples.specs.declared.meta.Meta.{Meta}
 use Rattle.vec_tuples.specs.declared.element.Element.{Element}
 use Rattle.vec_tuples.specs.declared.element.ElementHead.{ElementHead}
 use Rattle.vec_tuples.specs.declared.links.Links.{Links}
-use Rattle.vec_tuples.specs.Spelling.{is_level, element_bytes, element_with, head_with, links_bytes, links_with, entry_bytes, row_with, centre_with}
+use Rattle.byte_fields.specs.Levels.{is_level}
+use Rattle.vec_tuples.specs.Spelling.{element_bytes, element_with, head_with, links_bytes, links_with, entry_bytes, row_with, centre_with}
 use Rattle.page_redo.specs.PageTuples.{element_at, links_at, with_item, added, centre_changed, is_graph, is_meta_page, is_graph_page, is_lists_page, is_entries_page}
 
 abbrev pub PageChange : Type 0

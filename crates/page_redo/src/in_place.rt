@@ -4,7 +4,7 @@ ghost use Rattle.std.specs.Prelude.{◌≡◌, ◌<◌, ◌^◌, length};
 ghost use Rattle.vec_names.specs.Params.{IsInRange};
 ghost use Rattle.page_redo.specs.PageTuples.{head_changed, links_changed, meta_changed};
 ghost use Rattle.page_redo.specs.PageChanges.{on_graph, on_meta, linked, relisted, entered, hinted};
-ghost use Rattle.vec_tuples.specs.Spelling.{is_level};
+ghost use Rattle.byte_fields.specs.Levels.{is_level};
 ghost use Rattle.page_redo.specs.OfParts.{IsMade, head_after, delete_element, delete_links};
 
 use crate::head_changes::{HeadChange, head_after, is_current};

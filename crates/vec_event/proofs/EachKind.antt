@@ -1,14 +1,17 @@
 -- Each kind of event is read as it is spelled.
 use Rattle.std.proofs.Common.{◌≡◌, ℕ, ◌+◌, ◌<◌, ◌≤◌, ◌^◌, Bool, List, ◌++◌, drop, Option, Some, None, refl, arith, lit<, lit≤}
-use Rattle.std.specs.Prelude.{slice_index}
+use Rattle.std.specs.Prelude.{slice_index, true}
+use Rattle.std.proofs.Common.{eq-eqb}
+use Rattle.std.proofs.lemmas.Bool.{eqb-true}
 use Rattle.vec_names.specs.declared.tid.Tid.{Tid}
 use Rattle.vec_names.specs.declared.heap_id.HeapId.{HeapId}
 use Rattle.vec_history.specs.declared.event.Event.{Event}
 use Rattle.vec_history.specs.declared.event.Event.TheVariants.{Put, Join, Link, Relist, Drop, Mark, Entry, Hint, IvfAdd, IvfGrow, IvfDrop, IvfHint}
 use Rattle.vec_names.specs.Pointer.{tid_option_bytes}
-use Rattle.vec_event.specs.Spelling.{spelling, IsTyped, IsWritable, IsLevelOf}
+use Rattle.vec_event.specs.Spelling.{spelling, IsTyped, IsWritable}
 use Rattle.vec_event.specs.Reading.{version, byte, bits, lists, number_of_two, offsets, block, put, join, link, relist, drop_ids, mark, entry, hint, ivf_add, ivf_grow, ivf_drop, ivf_hint}
 use Rattle.byte_fields.proofs.FieldLaws.{IsField, then_law, next_law, viewed_law, wider}
+use Rattle.byte_fields.specs.Levels.{is_level}
 use Rattle.byte_fields.specs.Reading.{Reader, ◌⨟◌, and_then, place, optional_place, heap_id, two_bytes_from, level_beside, four_bytes_from}
 use Rattle.byte_fields.proofs.EachField.{one_byte, level_field, FitsLevel, two_bytes_field, four_bytes_field, place_field, optional_place_field, heap_id_field}
 use Rattle.vec_event.proofs.EachField.{any_byte_field, version_field, block_field, number_field}
@@ -197,13 +200,13 @@ ivf_hint_field =
 
 -- ---- Entry
 
-fits_level : (to : Option Tid) (level : ℕ) → level < 2 ^ 8 → IsLevelOf to level → FitsLevel to level
-fits_level None level small is = is
+fits_level : (to : Option Tid) (level : ℕ) → level < 2 ^ 8 → is_level to level ≡ true → FitsLevel to level
+fits_level None level small is = eqb-true level 0 is
 fits_level (Some to) level small is = small
 
-level_fits : (to : Option Tid) (level : ℕ) → FitsLevel to level → (level < 2 ^ 8) × IsLevelOf to level
-level_fits None level fits = (omega (arith, fits), fits)
-level_fits (Some to) level fits = (fits, tt)
+level_fits : (to : Option Tid) (level : ℕ) → FitsLevel to level → (level < 2 ^ 8) × (is_level to level ≡ true)
+level_fits None level fits = (omega (arith, fits), eq-eqb level 0 fits)
+level_fits (Some to) level fits = (fits, refl)
 
 abbrev entry_of : Option Tid × ℕ → Event
 entry_of x = Entry x.0 x.1

@@ -1,11 +1,12 @@
 -- The one spelling of each lasting event: its kind, and its fields in their order. Numbers are little-endian.
-use Rattle.std.specs.Prelude.{◌≡◌, ℕ, ◌<◌, ◌≤◌, ◌^◌, Bool, List, [], ◌∷◌, ◌++◌, length, Option, Some, None, ⊤, All}
+use Rattle.std.specs.Prelude.{◌≡◌, ℕ, ◌<◌, ◌≤◌, ◌^◌, Bool, true, List, [], ◌∷◌, ◌++◌, length, Option, Some, None, ⊤, All}
 use Rattle.std.specs.List.{flat_map}
 use Rattle.std.specs.Int.{w16, w32, to_le_bytes}
 use Rattle.index_sizes.specs.declared.limits.TheConstants.{LAST_BLOCK, MOST_BITS, MOST_BLOCKS, MOST_SLOTS}
 use Rattle.bit_code.specs.Places.{packed}
 use Rattle.vec_names.specs.declared.tid.Tid.{Tid}
 use Rattle.vec_names.specs.Pointer.{tid_bytes, tid_option_bytes, heap_id_bytes}
+use Rattle.byte_fields.specs.Levels.{is_level}
 use Rattle.vec_history.specs.declared.event.Event.{Event}
 use Rattle.vec_history.specs.declared.event.Event.TheVariants.{Put, Join, Link, Relist, Drop, Mark, Entry, Hint, IvfAdd, IvfGrow, IvfDrop, IvfHint, Gate, Ungate, Phase, VacuumEnd, Cancel, Settled, DiskFaulted}
 
@@ -54,11 +55,6 @@ abbrev pub RisesFrom : ℕ → List ℕ → Type 0
 RisesFrom low [] = ⊤
 RisesFrom low (x ∷ xs) = (low < x) × RisesFrom x xs
 
--- a level stands above 0 only with an entry point
-abbrev pub IsLevelOf : Option Tid → ℕ → Type 0
-IsLevelOf None level = level ≡ 0
-IsLevelOf (Some to) level = ⊤
-
 -- a lasting event with no value that is not allowed
 unfoldable pub IsWritable : Event → Type 0
 IsWritable (Put at list_at version level id bits lists) = (1 ≤ version) × (length lists ≤ MOST_SLOTS)
@@ -67,7 +63,7 @@ IsWritable (Link at list_at version slot to) = 1 ≤ version
 IsWritable (Relist at list_at version lists) = (1 ≤ version) × (length lists ≤ MOST_SLOTS)
 IsWritable (Drop at version gone) = (1 ≤ version) × (1 ≤ gone) × (gone ≤ 1023)
 IsWritable (Mark at list_at version) = 1 ≤ version
-IsWritable (Entry to level) = IsLevelOf to level
+IsWritable (Entry to level) = is_level to level ≡ true
 IsWritable (Hint block) = block ≤ MOST_BLOCKS
 IsWritable (IvfAdd block id bits) = block ≤ LAST_BLOCK
 IsWritable (IvfGrow list last block id bits) = (list ≤ LAST_BLOCK) × (last ≤ LAST_BLOCK) × (block ≤ LAST_BLOCK)

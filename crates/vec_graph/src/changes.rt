@@ -13,6 +13,18 @@ use std::alloc::{AllocError, Global};
 use vec_history::Event;
 use vec_names::{HeapId, Listed, Tid};
 
+/// What a Put brings: a node with one id.
+#[derive(Clone, Copy)]
+struct NewNode<'a> {
+    at: Tid,
+    list_at: Tid,
+    version: u8,
+    level: u8,
+    id: HeapId,
+    bits: &'a Bits,
+    lists: &'a Listed<Option<Tid>>,
+}
+
 impl Graph {
     /// Makes of this graph what the event does. `wrap` is the version after which 1 follows: 255 today, and less
     /// in an older form of the log. Only memory can be wanting; the graph may then be anything.
@@ -28,7 +40,18 @@ impl Graph {
                 id,
                 bits,
                 lists,
-            } => self.put(*at, *list_at, *version, *level, *id, bits, lists, alloc),
+            } => {
+                let new = NewNode {
+                    at: *at,
+                    list_at: *list_at,
+                    version: *version,
+                    level: *level,
+                    id: *id,
+                    bits,
+                    lists,
+                };
+                self.put(new, alloc)
+            }
             Event::Join { at, id, .. } => self.join(*at, *id),
             Event::Link { at, slot, to, .. } => {
                 self.link(*at, *slot, *to);
@@ -60,34 +83,26 @@ impl Graph {
         }
     }
 
-    fn put(
-        &mut self,
-        at: Tid,
-        list_at: Tid,
-        version: u8,
-        level: u8,
-        id: HeapId,
-        bits: &Bits,
-        lists: &Listed<Option<Tid>>,
-        alloc: Global,
-    ) -> Result<(), AllocError>
-        ensures { OnOk result (self.new ≡ with_new self.old at list_at version level id bits.now lists.now) }
+    fn put(&mut self, new: NewNode, alloc: Global) -> Result<(), AllocError>
+        ensures { let n = new.entry in
+            OnOk result (self.new ≡ with_new self.old n.at n.list_at n.version n.level n.id n.bits.now n.lists.now) }
     {
-        let bits = bits.copied()?;
-        let slots = lists.try_clone(alloc)?;
+        let bits = new.bits.copied()?;
+        let slots = new.lists.try_clone(alloc)?;
         let mut ids = Listed::new(alloc);
-        ids.push(id)?;
+        ids.push(new.id)?;
         let node = Node {
-            level,
-            version,
+            level: new.level,
+            version: new.version,
             deleted: false,
             bits,
             ids,
-            list_at,
+            list_at: new.list_at,
             slots,
         };
-        self.nodes.insert(at, node)?;
-        self.blocks = self.blocks.max((at.block + 1).max(list_at.block + 1));
+        self.nodes.insert(new.at, node)?;
+        let end = (new.at.block + 1).max(new.list_at.block + 1);
+        self.blocks = self.blocks.max(end);
         Ok(())
     }
 

@@ -12,6 +12,7 @@ use Rattle.vec_names.specs.declared.params.Ops.TheVariants.{Hamming, Jaccard}
 use Rattle.vec_names.specs.declared.params.Params.{Params}
 use Rattle.vec_names.specs.Params.{IsInRange}
 use Rattle.vec_names.specs.Pointer.{tid_bytes, tid_option_bytes, heap_id_bytes, heap_id_option_bytes}
+use Rattle.byte_fields.specs.Levels.{is_level}
 use Rattle.bit_code.specs.Places.{packed}
 use Rattle.vec_tuples.specs.declared.meta.Meta.{Meta}
 use Rattle.vec_tuples.specs.declared.entry.EntryRow.{EntryRow}
@@ -43,11 +44,7 @@ meta_bytes m =
     to_le_bytes w32 magic
     ++ (to_le_bytes w16 m.format ++ (params_bytes m.params ++ (tid_option_bytes m.entry ++ (m.level ∷ 0 ∷ to_le_bytes w32 m.hint))))
 
--- a level stands above 0 only with an entry
-abbrev pub is_level : Option Tid → ℕ → Bool
-is_level None level = level == 0
-is_level (Some at) level = true
-
+-- a level stands above 0 only beside an entry point, and has one byte
 abbrev pub IsLevelOf : Option Tid → ℕ → Type 0
 IsLevelOf entry level = (is_level entry level ≡ true) × (level < 2 ^ 8)
 

@@ -1,6 +1,6 @@
 use Rattle.std.proofs.Common.{◌≡◌, true, sym, arith, rules}
 use Rattle.page_redo.specs.PageTuples.{is_graph}
-use Rattle.vec_tuples.specs.Spelling.{is_level}
+use Rattle.byte_fields.specs.Levels.{is_level}
 use Rattle.page_redo.proofs.MetaChanges.{entry_of_graph}
 use Rattle.page_redo.proofs.in_place.enter.Goals as goal
 
