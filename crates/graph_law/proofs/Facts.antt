@@ -1,5 +1,5 @@
 -- Further facts of a legal history, for those who rest on the law.
-use Rattle.std.proofs.Common.{◌≡◌, ◌∙◌, inl, inr, ℕ, ◌<◌, ◌≤◌, false, List, [], ◌∷◌, ◌++◌, length, length-take, take, slice_get, Some, refl, sym, ap, subst, arith}
+use Rattle.std.proofs.Common.{◌≡◌, ◌∙◌, inl, inr, ℕ, ◌<◌, ◌≤◌, false, List, [], ◌∷◌, ◌++◌, length, length-take, take, Some, sym, ap, subst, arith}
 use Rattle.std.proofs.lemmas.List.{length-take-le}
 use Rattle.std.proofs.lemmas.Option.{slice_get_within}
 use Rattle.vec_history.specs.declared.event.Event.{Event}
@@ -22,7 +22,6 @@ use Rattle.vec_graph.specs.Places.{IsOnBlocks}
 use Rattle.vec_graph.specs.Effect.{after, state_after}
 use Rattle.vec_graph.specs.Legal.{IsAllowed, IsLegal}
 use Rattle.vec_graph.specs.Sound.{IsSound}
-use Rattle.vec_history.proofs.OneMore.{in_longer}
 use Rattle.graph_law.specs.Reaching.{IsRootWith, is_entry, is_live, IsSoundWith}
 use Rattle.vec_graph.specs.Sound.{IsReachedFrom, from_root, through}
 use Rattle.graph_law.specs.Standing.{IsInHand, IsCleanFrom}
@@ -31,7 +30,7 @@ use Rattle.vec_graph.specs.Lasting.{IsMarkAt, IsSameAt}
 use Rattle.graph_law.proofs.Soundness.{sound_of, sound_with}
 use Rattle.vec_history.proofs.ByActs.{by_acts, cut}
 use Rattle.vec_graph.proofs.Lasting.{same_state, last_state, stays_same}
-use Rattle.vec_history.proofs.OneMore.{place_of, act_last}
+use Rattle.vec_history.proofs.OneMore.{place_of}
 use Rattle.vec_graph.proofs.Placing.{on_blocks_after}
 use Rattle.graph_law.proofs.Known.{step_of}
 use Rattle.graph_law.proofs.Clean.{behind_before, no_drop_last}

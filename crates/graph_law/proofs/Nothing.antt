@@ -1,5 +1,5 @@
 -- An index without nodes is shaped and sound.
-use Rattle.std.proofs.Common.{◌≡◌, ℕ, Some, None, sym, ◌∙◌, arith}
+use Rattle.std.proofs.Common.{◌≡◌, None, sym, ◌∙◌, arith}
 use Rattle.std.specs.FinMap as fin
 use Rattle.std.proofs.lemmas.Option.{none-some}
 use Rattle.vec_names.specs.declared.tid.Tid.{Tid}

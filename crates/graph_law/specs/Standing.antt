@@ -1,19 +1,16 @@
 -- What stands at each position of a legal history.
-use Rattle.std.specs.Prelude.{◌≡◌, ℕ, ◌+◌, ◌<◌, ◌≤◌, ◌⊎◌, List, length, false, Some}
+use Rattle.std.specs.Prelude.{ℕ, ◌+◌, ◌<◌, ◌≤◌, ◌⊎◌, List, length}
 use Rattle.vec_names.specs.declared.tid.Tid.{Tid}
-use Rattle.vec_history.specs.declared.event.Event.{Event}
 use Rattle.vec_history.specs.declared.event.Event.TheVariants as event
 use Rattle.vec_history.specs.declared.event.Act.{Act}
-use Rattle.vec_history.specs.declared.gate.Gate.TheVariants.{Update, Scan}
+use Rattle.vec_history.specs.declared.gate.Gate.TheVariants.{Scan}
 use Rattle.vec_history.specs.declared.gate.Hold.{Hold}
-use Rattle.vec_history.specs.declared.gate.Hold.TheVariants.{Alone}
 use Rattle.vec_history.specs.declared.stage.Stage.TheVariants.{Mark}
-use Rattle.vec_history.specs.Acts.{IsActAt, NoneAfter}
+use Rattle.vec_history.specs.Acts.{IsActAt}
 use Rattle.vec_history.specs.Gates.{HoldsSince}
 use Rattle.vec_history.specs.Phases.{IsBehindDrops}
-use Rattle.vec_graph.specs.declared.node.Node.{Node}
 use Rattle.vec_graph.specs.declared.graph.Graph.{Graph}
-use Rattle.vec_graph.specs.Graph.{node_at, IsLiveAt, HasLevel}
+use Rattle.vec_graph.specs.Graph.{IsLiveAt}
 use Rattle.vec_graph.specs.Effect.{after, state_after}
 use Rattle.vec_graph.specs.Knowing.{IsKnown}
 use Rattle.vec_graph.specs.Cleaning.{WereCleaned}

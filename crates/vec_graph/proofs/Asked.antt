@@ -1,5 +1,5 @@
 -- What is asked and what is granted are together the rules.
-use Rattle.std.proofs.Common.{◌≡◌, ◌≢◌, ℕ, ◌<◌, ◌≤◌, Bool, List, [], ◌∷◌, ◌++◌, length, Option, Some, None, refl, sym, ap, subst, ◌∙◌, arith}
+use Rattle.std.proofs.Common.{◌≡◌, ℕ, ◌<◌, ◌≤◌, List, [], ◌∷◌, length, Option, Some, refl, sym, ap, subst, ◌∙◌}
 use Rattle.std.proofs.lemmas.Option.{same_Some}
 use Rattle.index_sizes.specs.Sizes.{slots_of_level}
 use Rattle.vec_names.specs.declared.tid.Tid.{Tid}
@@ -13,8 +13,8 @@ use Rattle.vec_graph.specs.declared.graph.Graph.{Graph}
 use Rattle.vec_graph.specs.Graph.{node_at, HasAllSlots, IsMember, slot_layer}
 use Rattle.vec_graph.specs.Effect.{effect, after, joined, linked, relisted, dropped, marked}
 use Rattle.vec_graph.specs.Knowing.{Knows}
-use Rattle.vec_graph.specs.Rules.{IsEventAllowed, IsPutAllowed, IsLinkAllowed, IsRelistAllowed, KnowsMembers}
-use Rattle.vec_graph.specs.Asking.{StandsSo, IsPutAsked, IsLinkAsked, IsRelistAsked, IsAsked, IsGranted, IsFresh, IsOfAll}
+use Rattle.vec_graph.specs.Rules.{IsEventAllowed, IsLinkAllowed, IsRelistAllowed, KnowsMembers}
+use Rattle.vec_graph.specs.Asking.{StandsSo, IsLinkAsked, IsRelistAsked, IsAsked, IsGranted, IsFresh, IsOfAll}
 use Rattle.vec_graph.proofs.Remaining.{params_changed}
 
 -- no event changes the parameters

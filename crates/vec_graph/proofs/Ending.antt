@@ -18,7 +18,7 @@ use Rattle.vec_history.specs.Settling.{is_lasting}
 use Rattle.vec_history.proofs.OneAtATime.{one_phase}
 use Rattle.vec_graph.specs.declared.node.Node.{Node}
 use Rattle.vec_graph.specs.declared.graph.Graph.{Graph}
-use Rattle.vec_graph.specs.Graph.{node_at, IsDoomedAt}
+use Rattle.vec_graph.specs.Graph.{IsDoomedAt}
 use Rattle.vec_graph.specs.Effect.{effect, after}
 use Rattle.vec_graph.specs.Rules.{IsVacuumEndAllowed, IsCancelAllowed}
 use Rattle.vec_graph.proofs.Placing.{stands_there, passes_there}

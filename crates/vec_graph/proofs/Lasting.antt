@@ -1,5 +1,5 @@
 -- What lasts of a node from a position on.
-use Rattle.std.proofs.Common.{◌≡◌, ◌⊎◌, inl, inr, ℕ, ◌+◌, ◌<◌, ◌≤◌, false, List, [], ◌∷◌, ◌++◌, take, drop, length, slice_get, Some, refl, sym, ap, subst, ◌∙◌, append-nil, take-append-drop, arith}
+use Rattle.std.proofs.Common.{◌≡◌, ◌⊎◌, inl, inr, ℕ, ◌≤◌, false, List, [], ◌∷◌, ◌++◌, take, drop, length, Some, refl, sym, ap, subst, ◌∙◌, take-append-drop, arith}
 use Rattle.std.proofs.lemmas.List.{length-take-le, take-append-le, take_all, take-take}
 use Rattle.vec_names.specs.declared.tid.Tid.{Tid}
 use Rattle.vec_names.specs.declared.heap_id.HeapId.{HeapId}
@@ -17,7 +17,7 @@ use Rattle.vec_graph.specs.Graph.{node_at, IsLiveAt, IsDoomedAt}
 use Rattle.vec_graph.specs.Places.{IsOnBlocks}
 use Rattle.vec_graph.specs.Effect.{after, state_after}
 use Rattle.vec_graph.specs.Legal.{IsAllowed, IsLegal}
-use Rattle.vec_graph.specs.Lasting.{IsMarkAt, IsIdsEndAt, IsSame, IsSameAt, HasIdsAt}
+use Rattle.vec_graph.specs.Lasting.{IsMarkAt, IsIdsEndAt, IsSameAt, HasIdsAt}
 use Rattle.vec_graph.specs.Asking.{StandsSo}
 use Rattle.vec_graph.proofs.Placing.{on_effect}
 use Rattle.vec_graph.proofs.Levels.{after_append}

@@ -1,5 +1,5 @@
 -- What is asked of a desk holds on while other desks act.
-use Rattle.std.proofs.Common.{◌≡◌, ◌≢◌, ◌⊎◌, inl, inr, ℕ, zero, suc, ◌+◌, ◌*◌, ◌<◌, ◌≤◌, ◌^◌, Bool, true, false, max, List, [], ◌∷◌, ◌++◌, take, drop, length, slice_get, Option, Some, None, refl, sym, ap, subst, ◌∙◌, append_assoc, append-nil, take-append-drop, arith, true≢false}
+use Rattle.std.proofs.Common.{◌≡◌, ◌≢◌, inl, inr, ℕ, zero, suc, ◌+◌, ◌<◌, ◌≤◌, ◌^◌, false, List, [], ◌∷◌, ◌++◌, take, drop, length, slice_get, Option, Some, None, refl, sym, ap, subst, ◌∙◌, append_assoc, append-nil, take-append-drop, arith, true≢false}
 use native.Mathlib.Nat.{two-pow-succ}
 use Rattle.std.proofs.lemmas.Option.{same_Some, none-some}
 use Rattle.std.proofs.lemmas.List.{length-append}
@@ -13,19 +13,18 @@ use Rattle.vec_history.specs.declared.gate.Hold.TheVariants.{Alone}
 use Rattle.vec_history.specs.declared.stage.Stage.{Stage}
 use Rattle.vec_history.specs.declared.stage.Stage.TheVariants as stages
 use Rattle.vec_history.specs.Gates.{HoldsAs, Holds, AreGatesAllowed}
-use Rattle.vec_history.specs.Phases.{IsOfVacuum, PhaseSince, IsInPhase, IsAPhaseStanding, IsDrop, IsUngateAllowed, IsPhaseRemoveAllowed, IsPhaseRepairAllowed}
-use Rattle.vec_history.proofs.OneAtATime.{one_phase}
+use Rattle.vec_history.specs.Phases.{IsInPhase, IsAPhaseStanding}
 use Rattle.vec_history.proofs.Alone.{one_alone}
 use Rattle.vec_graph.specs.declared.place.Place.{Place}
 use Rattle.vec_graph.specs.declared.node.Node.{Node}
 use Rattle.vec_graph.specs.declared.graph.Graph.{Graph}
-use Rattle.vec_graph.specs.Graph.{node_at, IsLive, IsLiveAt, IsDoomed, IsDoomedAt, IsMember}
+use Rattle.vec_graph.specs.Graph.{IsLive, IsLiveAt, IsDoomed, IsDoomedAt}
 use Rattle.vec_graph.specs.Places.{IsOnBlocks}
-use Rattle.vec_graph.specs.Effect.{effect, after, state_after, changed, joined, linked, relisted, dropped, marked}
-use Rattle.vec_graph.specs.Rules.{IsEventAllowed, IsPhaseAllowed, IsVacuumEndAllowed, IsCancelAllowed, IsDropAllowed, IsMarkAllowed, IsEntryAllowed, IsEntryAtAllowed, IsNoEntryAllowed, IsHintAllowed, IsThere}
+use Rattle.vec_graph.specs.Effect.{effect, after, state_after, joined, linked, relisted, dropped, marked}
+use Rattle.vec_graph.specs.Rules.{IsEventAllowed, IsPhaseAllowed, IsVacuumEndAllowed, IsCancelAllowed, IsDropAllowed, IsMarkAllowed, IsEntryAllowed, IsHintAllowed, IsThere}
 use Rattle.vec_history.specs.Legal.{IsLegalAfter}
 use Rattle.vec_graph.specs.Legal.{IsAllowed, IsLegal}
-use Rattle.vec_graph.specs.Asking.{StandsSo, IsPutAsked, IsLinkAsked, IsRelistAsked, IsAsked}
+use Rattle.vec_graph.specs.Asking.{StandsSo, IsAsked}
 use Rattle.vec_history.proofs.Prefixes.{cut_after, each_after, more_after, rest_after}
 use Rattle.vec_graph.proofs.Placing.{free_place, same_list, on_effect}
 use Rattle.vec_graph.proofs.Levels.{after_append}

@@ -1,25 +1,23 @@
 -- What a desk has by its own acts, and what lasts of it.
-use Rattle.std.proofs.Common.{◌≡◌, ◌≢◌, inl, inr, ℕ, ◌+◌, ◌<◌, ◌≤◌, Bool, List, [], ◌∷◌, ◌++◌, take, drop, length, slice_get, Option, Some, refl, sym, ap, subst, ◌∙◌, cond, arith, false}
+use Rattle.std.proofs.Common.{◌≡◌, ◌≢◌, ℕ, ◌<◌, ◌≤◌, Bool, List, [], ◌∷◌, ◌++◌, take, length, Option, Some, refl, sym, ap, subst, ◌∙◌, cond, arith, false}
 use Rattle.std.specs.FinMap as fin
 use Rattle.std.specs.Ordering.{is_eq}
 use Rattle.std.specs.Cmp.{tied_itself}
 use Rattle.std.proofs.lemmas.List.{length-take-le, take_all}
 use Rattle.std.proofs.lemmas.Option.{slice_get_within}
-use Rattle.list_values.proofs.Parts.{in_whole}
 use Rattle.vec_names.specs.declared.tid.Tid.{Tid}
 use Rattle.vec_names.specs.declared.heap_id.HeapId.{HeapId}
-use Rattle.vec_names.specs.Order.{tid_cmp, tid_cmp_total}
+use Rattle.vec_names.specs.Order.{tid_cmp_total}
 use Rattle.vec_history.specs.declared.event.Event.TheVariants as event
 use Rattle.vec_history.specs.declared.event.Act.{Act}
 use Rattle.vec_history.specs.declared.gate.Gate.TheVariants.{Update}
-use Rattle.vec_history.specs.declared.gate.Hold.{Hold}
 use Rattle.vec_history.specs.declared.gate.Hold.TheVariants.{Alone}
 use Rattle.vec_history.specs.Acts.{act_of, NoneFrom}
-use Rattle.vec_history.specs.Gates.{IsOfGate, HoldsAs, HoldsSince}
+use Rattle.vec_history.specs.Gates.{IsOfGate, HoldsAs}
 use Rattle.vec_history.proofs.OneMore.{hold_kept, hold_on, one_longer}
 use Rattle.vec_graph.specs.declared.node.Node.{Node}
 use Rattle.vec_graph.specs.declared.graph.Graph.{Graph}
-use Rattle.vec_graph.specs.Graph.{node_at, IsLive, IsLiveAt}
+use Rattle.vec_graph.specs.Graph.{IsLiveAt}
 use Rattle.vec_graph.specs.Places.{IsOnBlocks}
 use Rattle.vec_graph.specs.Effect.{after, state_after}
 use Rattle.vec_graph.specs.Knowing.{Knows}

@@ -16,7 +16,7 @@ use Rattle.vec_graph.specs.Graph.{node_at, IsLive, IsLiveAt, IsDoomed, IsDoomedA
 use Rattle.vec_graph.specs.Places.{IsOnBlocks, IsFree}
 use Rattle.vec_graph.specs.Effect.{effect, after, with_node, with_new, changed, changed_from, joined, linked, relisted, dropped, marked}
 use Rattle.vec_graph.specs.Knowing.{Knows, IsKnown}
-use Rattle.vec_graph.specs.Lasting.{IsMarkAt, IsDropAt, IsIdsEndAt, IsSame, IsSameAt, HasIdsAt}
+use Rattle.vec_graph.specs.Lasting.{IsMarkAt, IsIdsEndAt, IsSame, IsSameAt, HasIdsAt}
 use Rattle.vec_graph.specs.Asking.{StandsSo}
 use Rattle.vec_graph.specs.Rules.{IsEventAllowed, IsPutAllowed, IsJoinAllowed, IsLinkAllowed, IsRelistAllowed, IsMarkAllowed, IsEntryAllowed}
 use Rattle.vec_graph.proofs.Placing.{after_insert, free_place, same_list}

@@ -1,5 +1,5 @@
 -- One vacuum at a time: while a desk's phase stands, no other desk begins or ends one, drops ids or marks nodes.
-use Rattle.std.proofs.Common.{◌≡◌, ◌≢◌, ◌⊎◌, inl, inr, ℕ, ◌+◌, ◌<◌, ◌≤◌, List, [], ◌∷◌, ◌++◌, take, drop, length, slice_get, Some, refl, sym, ap, subst, ◌∙◌, take-append-drop, arith}
+use Rattle.std.proofs.Common.{◌≡◌, ◌≢◌, ◌⊎◌, inl, inr, ℕ, ◌≤◌, List, [], ◌∷◌, ◌++◌, take, drop, length, sym, subst, take-append-drop, arith}
 use Rattle.std.proofs.lemmas.List.{length-take-le, take-take}
 use Rattle.std.proofs.lemmas.Option.{slice_get_within}
 use Rattle.list_values.proofs.Parts.{in_order}
@@ -17,7 +17,7 @@ use Rattle.vec_history.proofs.ByActs.{along, cut, allowed_at}
 use Rattle.vec_history.proofs.OneMore.{in_longer, act_last, one_longer, phase_on}
 use Rattle.list_values.proofs.Parts.{in_whole}
 use Rattle.vec_graph.specs.declared.graph.Graph.{Graph}
-use Rattle.vec_graph.specs.Graph.{IsLiveAt, IsDoomedAt}
+use Rattle.vec_graph.specs.Graph.{IsDoomedAt}
 use Rattle.vec_graph.specs.Places.{IsOnBlocks}
 use Rattle.vec_graph.specs.Effect.{after, state_after}
 use Rattle.vec_graph.specs.Rules.{IsEventAllowed}

@@ -1,6 +1,6 @@
 -- What the rules ask of a desk's next event, other than what a step answers by a word: whether another desk's hold stands in the way, whether a node
 -- is as it was read and how many ids it has, whether there is room. What is asked holds on while other desks act.
-use Rattle.std.specs.Prelude.{◌≡◌, ℕ, ◌<◌, ◌≤◌, ⊤, List, Bool, length, Option, Some, None}
+use Rattle.std.specs.Prelude.{◌≡◌, ℕ, ◌<◌, ◌≤◌, ⊤, List, Bool, length, Option, Some}
 use Rattle.index_sizes.specs.declared.limits.TheConstants.{MOST_IDS}
 use Rattle.index_sizes.specs.Sizes.{slots_of_level}
 use Rattle.vec_names.specs.declared.tid.Tid.{Tid}

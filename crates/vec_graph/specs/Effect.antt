@@ -1,5 +1,5 @@
 -- What each event changes.
-use Rattle.std.specs.Prelude.{ℕ, ◌+◌, ◌/◌, ◌%◌, ◌==◌, ◌||◌, if◌then◌else◌, max, ⊤, Bool, true, false, List, [], ◌∷◌, ◌++◌, take, length, replicate, slice_set, Option, Some, None}
+use Rattle.std.specs.Prelude.{ℕ, ◌+◌, max, ⊤, Bool, true, false, List, [], ◌∷◌, ◌++◌, take, length, replicate, slice_set, Option, Some, None}
 use Rattle.std.specs.FinMap.{insert}
 use Rattle.list_values.specs.Masks.{kept}
 use Rattle.index_sizes.specs.Sizes.{next_version}

@@ -1,5 +1,5 @@
 -- Where a new node may stand: computed from the lengths of what stands on the pages, and from nothing else.
-use Rattle.std.specs.Prelude.{◌≡◌, ℕ, ◌+◌, ◌*◌, ◌-◌, ◌/◌, ◌<◌, ◌==◌, ◌&&◌, nat_le, nat_lt, if◌then◌else◌, max, Bool, true, List, [], ◌∷◌, find, sum_by, Option, Some, None}
+use Rattle.std.specs.Prelude.{◌≡◌, ℕ, ◌+◌, ◌-◌, ◌<◌, ◌==◌, ◌&&◌, nat_le, nat_lt, if◌then◌else◌, max, Bool, true, List, [], ◌∷◌, find, sum_by, Option, Some, None}
 use Rattle.std.specs.Option.{option_map, option_or}
 use Rattle.std.specs.FinMap as fin
 use Rattle.index_sizes.specs.declared.limits.TheConstants.{PAGE_ROOM}

@@ -1,7 +1,6 @@
 -- Going over the elements of a list in order, or from the last to the first.
 use Rattle.std.proofs.Common.{◌≡◌, ℕ, ◌<◌, ◌≤◌, ◌+◌, inl, inr, List, length, slice_get, Some, sym, ap, subst, ◌∙◌, arith}
 use Rattle.std.proofs.lemmas.Option.{slice_get_within, same_Some}
-use Rattle.vec_history.specs.declared.event.Act.{Act}
 use Rattle.list_values.proofs.Parts.{in_order}
 
 -- each of the first i elements is one of these

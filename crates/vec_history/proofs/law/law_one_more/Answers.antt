@@ -1,4 +1,3 @@
-use Rattle.vec_history.specs.declared.event.Act.{Act}
 use Rattle.vec_history.proofs.OneMore.{hold_on, hold_back, hold_new, hold_ends, phase_on, phase_back, phase_new, not_begun, vacuum_ends, vacuum_cancelled, barrier_on, barrier_back, barrier_new, barrier_taken, removed_on, removed_back, removed_new, removed_ends, removed_not_new, lasting_more}
 use Rattle.vec_history.proofs.law.law_one_more.Goals as goal
 
