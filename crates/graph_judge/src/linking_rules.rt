@@ -20,7 +20,8 @@ pub(crate) fn may_put(
     bits: &Bits,
     lists: &Listed<Option<Tid>>,
 ) -> bool
-    ensures { IsTrue result ↔ IsPutAllowed course.now.base.now course.now.acts.now desk place.at place.list_at place.version level bits.now lists.now }
+    ensures { IsTrue result ↔ IsPutAllowed course.now.base.now course.now.acts.now desk
+        place.at place.list_at place.version level bits.now lists.now }
 {
     if !holds(course.acts, desk, Gate::Update) {
         return false;

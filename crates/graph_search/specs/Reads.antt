@@ -43,12 +43,14 @@ is_version (Some wanted) version = wanted == version
 abbrev pub node_answer : Option Node → ℕ → Option ℕ → Answer
 node_answer None layer version = Gone
 node_answer (Some n) layer version =
-    if n.deleted || (nat_lt n.level layer || not (is_version version n.version)) then Gone else OfNode n.level n.version n.list_at n.ids n.bits
+    if n.deleted || (nat_lt n.level layer || not (is_version version n.version)) then Gone
+    else OfNode n.level n.version n.list_at n.ids n.bits
 
 -- gone: it is deleted, or of another version
 abbrev pub list_answer : ℕ → Option Node → ℕ → ℕ → Answer
 list_answer m None version layer = Gone
-list_answer m (Some n) version layer = if n.deleted || not (n.version == version) then Gone else OfList (layer_slots m n.level layer n.slots)
+list_answer m (Some n) version layer =
+    if n.deleted || not (n.version == version) then Gone else OfList (layer_slots m n.level layer n.slots)
 
 abbrev pub seen_of : (Tid × Node) → Seen
 seen_of e = record { at = e.0; level = e.1.level; version = e.1.version; deleted = e.1.deleted; ids = e.1.ids }

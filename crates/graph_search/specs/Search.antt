@@ -41,7 +41,16 @@ is_among places at = list_any (eq_by_cmp tid_cmp at) places
 -- the element that a look at a node told, if it told one, with its distance to the query
 abbrev pub element_of : Ops → List Bool → Tid → Answer → List Found
 element_of ops query at (OfNode level version list_at ids bits) =
-    record { at = at; list_at = list_at; level = level; version = version; dist = distance_of ops query bits; ids = record { items = ids }; bits = bits } ∷ []
+    record {
+      at = at;
+      list_at = list_at;
+      level = level;
+      version = version;
+      dist = distance_of ops query bits;
+      ids = record { items = ids };
+      bits = bits;
+    }
+    ∷ []
 element_of ops query at Gone = []
 element_of ops query at (OfMeta entry level hint blocks) = []
 element_of ops query at (OfList slots) = []
@@ -143,7 +152,8 @@ IsCourse s b before (t ∷ turns) = IsTurn s b before t × IsCourse s b (before 
 
 abbrev pub turn_reads : ℕ → Turn → List (Look × Answer)
 turn_reads layer t =
-    (AtList t.element.at t.element.list_at t.element.level t.element.version layer, t.list) ∷ map (λ n. (AtNode n.0 layer None, n.1)) t.nodes
+    (AtList t.element.at t.element.list_at t.element.level t.element.version layer, t.list)
+    ∷ map (λ n. (AtNode n.0 layer None, n.1)) t.nodes
 
 abbrev pub course_reads : ℕ → List Turn → List (Look × Answer)
 course_reads layer [] = []

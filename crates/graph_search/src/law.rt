@@ -23,5 +23,6 @@ pub fn law_search()
 /// 0001 from the first with ef 4 expands all three and finds them in this order, at the distances 1, 1 and 2.
 pub fn law_worked_search()
     ensures { (a b c : Stand) → tid_cmp a.at b.at ≡ Less → tid_cmp a.at c.at ≡ Less → tid_cmp b.at c.at ≡ Less
-        → LayerSearch (from_first a) 4 (course_reads 0 (three_turns a b c)) (element_at a zeros ∷ element_at b last_two ∷ element_at c last_three ∷ []) }
+        → LayerSearch (from_first a) 4 (course_reads 0 (three_turns a b c))
+        (element_at a zeros ∷ element_at b last_two ∷ element_at c last_three ∷ []) }
 {}

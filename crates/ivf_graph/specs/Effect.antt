@@ -60,7 +60,8 @@ effect (Mark at list_at version) g = g
 effect (Entry to level) g = g
 effect (Hint block) g = g
 effect (IvfAdd block id bits) g = changed_on g block (with_row (id, bits))
-effect (IvfGrow list last block id bits) g = record g { lists = changed g.lists list (grown block (id, bits)); blocks = max g.blocks (block + 1) }
+effect (IvfGrow list last block id bits) g =
+    record g { lists = changed g.lists list (grown block (id, bits)); blocks = max g.blocks (block + 1) }
 effect (IvfDrop block gone) g = changed_on g block (others gone 1)
 effect (IvfHint list block) g = record g { lists = changed g.lists list (aimed block) }
 effect (Gate gate hold) g = g

@@ -89,4 +89,5 @@ pub record IsAnswerFrom (states : List IvfGraph) (lists : ℕ) (query : List Boo
 
 -- the answer of a search whose reads had these positions in the history
 abbrev pub IsAnswerAt : IvfGraph → List Act → List ℕ → List Bool → ℕ → List Hit → Type 0
-IsAnswerAt base acts positions query probes answer = IsAnswerFrom (map (state_after base acts) positions) (length base.lists) query probes answer
+IsAnswerAt base acts positions query probes answer =
+    IsAnswerFrom (map (state_after base acts) positions) (length base.lists) query probes answer

@@ -60,7 +60,8 @@ pub fn law_examples()
         ≡ (unequal_by 1, row_3) ∷ (unequal_by 2, row_2) ∷ (unequal_by 2, row_4) ∷ (unequal_by 3, row_1) ∷ [] }
 
     // The centres are read before the further row comes, and their block before it or after it.
-    ensures before_it { IsAnswerAt worked_index worked_acts (0 ∷ 0 ∷ []) (four false true true true) 1 ((unequal_by 1, row_3) ∷ (unequal_by 2, row_4) ∷ []) }
+    ensures before_it { IsAnswerAt worked_index worked_acts (0 ∷ 0 ∷ []) (four false true true true) 1
+        ((unequal_by 1, row_3) ∷ (unequal_by 2, row_4) ∷ []) }
     ensures behind_it { IsAnswerAt worked_index worked_acts (0 ∷ 1 ∷ []) (four false true true true) 1
         ((unequal_by 1, row_3) ∷ (unequal_by 1, row_5) ∷ (unequal_by 2, row_4) ∷ []) }
     ensures pages { (centre_pages 4 3 ≡ 1) × (centre_pages MOST_BITS MOST_BLOCKS ≡ MOST_BLOCKS) }

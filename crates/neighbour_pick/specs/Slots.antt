@@ -56,4 +56,5 @@ abbrev pub slot_of : Ops → List SlotSeen → Candidate → Option ℕ
 slot_of ops slots entrant =
     if list_any (λ s. is_named entrant.at s.at) slots
     then None
-    else option_or (position (λ s. is_none s.at) slots) (option_or (position (λ s. not s.live) slots) (slot_left (left_out ops (rivals slots entrant))))
+    else option_or (position (λ s. is_none s.at) slots)
+    (option_or (position (λ s. not s.live) slots) (slot_left (left_out ops (rivals slots entrant))))

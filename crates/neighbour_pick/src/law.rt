@@ -41,9 +41,23 @@ pub fn law_slots()
 pub fn law_equal_members()
     ensures { (member entrant : Tids) → is_named entrant (Some member) ≡ false
         → slot_of Hamming
-        (record { at = Some member; live = true; dist = hamming_of (false ∷ false ∷ false ∷ false ∷ []) (false ∷ false ∷ true ∷ true ∷ []); bits = false ∷ false ∷ true ∷ true ∷ [] }
-        ∷ record { at = Some member; live = true; dist = hamming_of (false ∷ false ∷ false ∷ false ∷ []) (false ∷ false ∷ true ∷ true ∷ []); bits = false ∷ false ∷ true ∷ true ∷ [] }
+        (record {
+          at = Some member;
+          live = true;
+          dist = hamming_of (false ∷ false ∷ false ∷ false ∷ []) (false ∷ false ∷ true ∷ true ∷ []);
+          bits = false ∷ false ∷ true ∷ true ∷ [];
+        }
+        ∷ record {
+          at = Some member;
+          live = true;
+          dist = hamming_of (false ∷ false ∷ false ∷ false ∷ []) (false ∷ false ∷ true ∷ true ∷ []);
+          bits = false ∷ false ∷ true ∷ true ∷ [];
+        }
         ∷ [])
-        (record { at = entrant; dist = hamming_of (false ∷ false ∷ false ∷ false ∷ []) (false ∷ false ∷ false ∷ true ∷ []); bits = false ∷ false ∷ false ∷ true ∷ [] })
+        (record {
+          at = entrant;
+          dist = hamming_of (false ∷ false ∷ false ∷ false ∷ []) (false ∷ false ∷ false ∷ true ∷ []);
+          bits = false ∷ false ∷ false ∷ true ∷ [];
+        })
         ≡ Some 1 }
 {}

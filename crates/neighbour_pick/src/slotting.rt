@@ -115,9 +115,11 @@ fn rank(slots: &[SlotSeen], entrant: &Found) -> Numbers
 fn rank_one(slots: &[SlotSeen], entrant: &Found, k: u8, order: &mut Numbers)
     requires within { k < length slots.now }
     requires room { array_vec_len order.old < 201 }
-    requires before { map (rival_at slots.now (candidate_of entrant.now)) order.old.items ≡ rivals_from slots.now (candidate_of entrant.now) (k + 1) }
+    requires before { map (rival_at slots.now (candidate_of entrant.now)) order.old.items
+        ≡ rivals_from slots.now (candidate_of entrant.now) (k + 1) }
     ensures one_more { array_vec_len order.new ≤ array_vec_len order.old + 1 }
-    ensures after { map (rival_at slots.now (candidate_of entrant.now)) order.new.items ≡ rivals_from slots.now (candidate_of entrant.now) k }
+    ensures after { map (rival_at slots.now (candidate_of entrant.now)) order.new.items
+        ≡ rivals_from slots.now (candidate_of entrant.now) k }
 {
     if slots[k as usize].at.is_none() {
         return;
@@ -179,7 +181,8 @@ fn weigh(
     requires one_length { All (λ slot. length slot.bits ≡ length entrant.now.bits) slots.now }
     ensures one_more { array_vec_len far.new ≤ array_vec_len far.old + 1 }
     ensures weighed { (rest : List Rival) → let rival = rival_at slots.now (candidate_of entrant.now) in
-        last_near ops (map rival far.new.items) rest (option_map rival result) ≡ last_near ops (map rival far.old.items) (rival k ∷ rest) (option_map rival near) }
+        last_near ops (map rival far.new.items) rest (option_map rival result)
+        ≡ last_near ops (map rival far.old.items) (rival k ∷ rest) (option_map rival near) }
 {
     if !is_far_rival(ops, slots, entrant, far, k) {
         return Some(k);

@@ -47,7 +47,8 @@ pub record IsBatch (area : List ℕ) (at : ℕ) (bytes : List ℕ) : Type 0 wher
 -- no batch stands there whose events, up to the first that can't be read, the room allows
 abbrev pub IsRefused : List ℕ → ℕ → ℕ → Type 0
 IsRefused area at used =
-    (bytes : List ℕ) (events : List Placed) (bad : Option ℕ) → IsBatch area at bytes → AreEvents (at + 5) bytes events bad → MOST_USED < used + room_of events
+    (bytes : List ℕ) (events : List Placed) (bad : Option ℕ) → IsBatch area at bytes → AreEvents (at + 5) bytes events bad
+    → MOST_USED < used + room_of events
 
 -- How a log ends: behind the batches that stand whole, with the events of one more that are read, where it stands
 -- itself; what all of them take of the room; and the place of the batch or event that is bad, if one is.

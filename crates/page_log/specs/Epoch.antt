@@ -24,10 +24,17 @@ is_open area = nat_le HEAD (length area) && slice_index area 39 == OPEN
 -- the form that the magic tells, 0 where it is none
 abbrev pub form_in : List ℕ → ℕ
 form_in area =
-    if long_at area 0 == from_le_bytes w64 (codes "VECBITS1") then 1 else (if long_at area 0 == from_le_bytes w64 (codes "VECBITS2") then 2 else 0)
+    if long_at area 0 == from_le_bytes w64 (codes "VECBITS1") then 1
+    else (if long_at area 0 == from_le_bytes w64 (codes "VECBITS2") then 2 else 0)
 
 abbrev pub head_in : List ℕ → Head
-head_in area = record { form = form_in area; epoch = long_at area 8; before = long_at area 16; blocks = word_at area 24; images = word_at area 28 }
+head_in area = record {
+  form = form_in area;
+  epoch = long_at area 8;
+  before = long_at area 16;
+  blocks = word_at area 24;
+  images = word_at area 28;
+}
 
 -- Of any area that is open: the header, or the place of what is wrong with its magic or its epoch, which is at least 1 and odd
 -- in the first area alone.

@@ -56,7 +56,8 @@ blocks_with g at list_at = max g.blocks (max (at.block + 1) (list_at.block + 1))
 -- the graph with a new node, which has one id
 abbrev pub with_new : Graph → Tid → Tid → ℕ → ℕ → HeapId → List Bool → List (Option Tid) → Graph
 with_new g at list_at version level id bits lists = record g {
-  nodes = insert g.nodes at (record { level = level; version = version; deleted = false; bits = bits; ids = id ∷ []; list_at = list_at; slots = lists });
+  nodes = insert g.nodes at
+      (record { level = level; version = version; deleted = false; bits = bits; ids = id ∷ []; list_at = list_at; slots = lists });
   blocks = blocks_with g at list_at;
 }
 

@@ -142,7 +142,8 @@ pub record IsHintAllowed (base : Graph) (acts : List Act) (desk block : ℕ) : T
 
 -- The desk may make the event after these acts. No event of an index of lists is allowed.
 abbrev pub IsEventAllowed : Graph → List Act → ℕ → Event → Type 0
-IsEventAllowed base acts desk (event.Put at list_at version level id bits lists) = IsPutAllowed base acts desk at list_at version level bits lists
+IsEventAllowed base acts desk (event.Put at list_at version level id bits lists) =
+    IsPutAllowed base acts desk at list_at version level bits lists
 IsEventAllowed base acts desk (event.Join at version id) = IsJoinAllowed base acts desk at version
 IsEventAllowed base acts desk (event.Link at list_at version slot to) = IsLinkAllowed base acts desk at list_at version slot to
 IsEventAllowed base acts desk (event.Relist at list_at version lists) = IsRelistAllowed base acts desk at list_at version lists
