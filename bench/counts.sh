@@ -5,7 +5,7 @@ set -eu
 . bench/program.sh
 work="${COUNTS_FOLDER:-$(mktemp -d)}"
 first="256 64 1"
-bench_program count_bench u64 bit_code <<'RATTLE'
+bench_program count_bench u64 index_sizes bit_code <<'RATTLE'
 //! Counts unequal places: 64,000 values of 256 places or so against one of them, some rounds, and prints the sum.
 //! Words: the places of a value, the number of values, the rounds. Not read by the gate.
 #![tactic(auto)]

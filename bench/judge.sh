@@ -5,7 +5,7 @@ set -eu
 . bench/program.sh
 work="${JUDGE_FOLDER:-$(mktemp -d)}"
 first="2 1"
-bench_program judge_bench usize vec_names bit_code byte_fields vec_event vec_history vec_graph <<'RATTLE'
+bench_program judge_bench usize index_sizes list_values vec_names bit_code vec_history vec_graph graph_judge <<'RATTLE'
 //! Makes a legal history of so many inserts, each with some links, judges it some rounds, and prints how many acts it has.
 //! Words: the inserts, the rounds. Not read by the gate.
 #![tactic(auto)]
@@ -13,8 +13,9 @@ bench_program judge_bench usize vec_names bit_code byte_fields vec_event vec_his
 use bit_code::Bits;
 use std::alloc::Global;
 use std::process::ExitCode;
-use vec_event::{Act, Event, Gate, Hold};
-use vec_graph::{Graph, Place, audit_hnsw};
+use vec_history::{Act, Event, Gate, Hold};
+use graph_judge::audit_hnsw;
+use vec_graph::{Graph, Place};
 use vec_names::{HeapId, Kind, Listed, Mapped, Ops, Params, Tid};
 
 fn answer(rt: &HostRuntime) -> Option<usize> {

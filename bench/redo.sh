@@ -5,7 +5,7 @@ set -eu
 . bench/program.sh
 work="${REDO_FOLDER:-$(mktemp -d)}"
 first="1 1"
-bench_program redo_bench u64 vec_names bit_code byte_fields vec_event page_bytes vec_tuples vec_history vec_graph page_redo <<'RATTLE'
+bench_program redo_bench u64 index_sizes list_values vec_names bit_code byte_fields page_bytes vec_tuples vec_history page_redo <<'RATTLE'
 //! Plays events on a page of a graph with 256 places and m 16, and prints how many fitted.
 //! Words: how many links, how many nodes that are put and marked. Not read by the gate.
 #![tactic(auto)]
@@ -15,7 +15,7 @@ use page_bytes::{Page, PageKind};
 use page_redo::redo;
 use std::alloc::Global;
 use std::process::ExitCode;
-use vec_event::Event;
+use vec_history::Event;
 use vec_names::{HeapId, Kind, Listed, Ops, Params, Tid};
 
 const PARAMS: Params = Params {
