@@ -71,11 +71,11 @@ module _ (pages : List Content) (g : Graph) (count : ℕ) (s : Stands pages g) w
   abbrev p : Params
   p = s.meta.params
 
-  many : length after ≡ length pages + count
-  many = length-append pages (replicate count fresh) ∙ ap (λ n. length pages + n) (length-replicate count fresh)
+  pub fresh_length : length after ≡ length pages + count
+  fresh_length = length-append pages (replicate count fresh) ∙ ap (λ n. length pages + n) (length-replicate count fresh)
 
-  item_same : (at : Tid) → item_in after at ≡ item_in pages at
-  item_same at = elim (cases_lt at.block (length pages)) as (λ _. item_in after at ≡ item_in pages at) [
+  pub fresh_items : (at : Tid) → item_in after at ≡ item_in pages at
+  fresh_items at = elim (cases_lt at.block (length pages)) as (λ _. item_in after at ≡ item_in pages at) [
     | inl h ↦ ap (λ o. option_and_then (λ (c : Content). item_at c.items at.off) o) (get_front pages (replicate count fresh) at.block h)
     | inr h ↦
         past (slice_get after at.block) refl h
@@ -87,30 +87,30 @@ module _ (pages : List Content) (g : Graph) (count : ℕ) (s : Stands pages g) w
       past (Some c) is h = ap (λ (c : Content). item_at c.items at.off) (get_behind pages fresh count at.block c h is) ∙ no_item at.off
 
   read_same : {A : Type 0} (f : Reader A) (at : Tid) → read_in f after at ≡ read_in f pages at
-  read_same f at = ap (λ o. option_and_then (λ x. in_whole (f x)) o) (item_same at)
+  read_same f at = ap (λ o. option_and_then (λ x. in_whole (f x)) o) (fresh_items at)
 
   links_same : (at : Tid) → links_in p after at ≡ links_in p pages at
-  links_same at = ap (λ o. option_and_then (λ x. in_whole (links p x)) o) (item_same at)
+  links_same at = ap (λ o. option_and_then (λ x. in_whole (links p x)) o) (fresh_items at)
 
   head_same : (at : Tid) → head_in p after at ≡ head_in p pages at
-  head_same at = ap (λ o. option_map head_of_element (option_and_then (λ x. in_whole (element p x)) o)) (item_same at)
+  head_same at = ap (λ o. option_map head_of_element (option_and_then (λ x. in_whole (element p x)) o)) (fresh_items at)
 
-  named : pointers p after ≡ pointers p pages
-  named =
+  pub fresh_pointers : pointers p after ≡ pointers p pages
+  fresh_pointers =
       flat_map-append (pointers_on p) pages (replicate count fresh)
       ∙ ap (λ l. pointers p pages ++ l) (all_copies (pointers_on p) fresh count refl)
       ∙ append-nil (pointers p pages)
 
   below_so : (o : Option Tid) → is_slot_below (length pages) o ≡ true → is_slot_below (length after) o ≡ true
   below_so None is = refl
-  below_so (Some to) is = lt-ltb to.block (length after) (omega (arith, ltb-true to.block (length pages) is, many))
+  below_so (Some to) is = lt-ltb to.block (length after) (omega (arith, ltb-true to.block (length pages) is, fresh_length))
 
   list_so : (at : Tid) (o : Option Links) → is_list p pages at o ≡ true → is_list p after at o ≡ true
   list_so at None is = is
   list_so at (Some l) is =
       let parts = and_parts (times_in at (pointers p pages) == 1) (list_all (is_slot_below (length pages)) l.tids) is in
       and_from (times_in at (pointers p after) == 1) (list_all (is_slot_below (length after)) l.tids)
-      (ap (λ (ps : List Tid). times_in at ps == 1) named ∙ parts.0)
+      (ap (λ (ps : List Tid). times_in at ps == 1) fresh_pointers ∙ parts.0)
       (all_so (is_slot_below (length pages)) (is_slot_below (length after)) l.tids below_so parts.1)
 
   item_so : (at : Tid) → is_node_item p pages at ≡ true → is_node_item p after at ≡ true
@@ -127,11 +127,11 @@ module _ (pages : List Content) (g : Graph) (count : ℕ) (s : Stands pages g) w
       | inl h ↦ whole.kind c (sym (get_front pages (replicate count fresh) block h) ∙ is)
       | inr h ↦ ap (λ (c : Content). is_graph_page c.kind) (get_behind pages fresh count block c h is)
     ];
-    items = λ at x same is. item_so at (whole.items at x same (sym (item_same at) ∙ is));
+    items = λ at x same is. item_so at (whole.items at x same (sym (fresh_items at) ∙ is));
   }
 
   node_same : (at : Tid) → node_in p after at ≡ node_in p pages at
-  node_same at = made (element_in p after at) ∙ ap (λ o. option_and_then (λ e. option_map (made_of e) (links_in p pages e.list_at)) o) (ap (λ o. option_and_then (λ x. in_whole (element p x)) o) (item_same at))
+  node_same at = made (element_in p after at) ∙ ap (λ o. option_and_then (λ e. option_map (made_of e) (links_in p pages e.list_at)) o) (ap (λ o. option_and_then (λ x. in_whole (element p x)) o) (fresh_items at))
     where
       made : (o : Option Element) → option_and_then (λ e. option_map (made_of e) (links_in p after e.list_at)) o ≡ option_and_then (λ e. option_map (made_of e) (links_in p pages e.list_at)) o
       made None = refl
@@ -146,11 +146,11 @@ module _ (pages : List Content) (g : Graph) (count : ℕ) (s : Stands pages g) w
   root_so =
       let parts = and_parts (nat_le s.meta.hint (length pages)) (is_entry p pages s.meta.entry s.meta.level) (root_holds pages g s) in
       and_from (nat_le s.meta.hint (length after)) (is_entry p after s.meta.entry s.meta.level)
-      (le-leb s.meta.hint (length after) (omega (arith, leb-true s.meta.hint (length pages) parts.0, many)))
+      (le-leb s.meta.hint (length after) (omega (arith, leb-true s.meta.hint (length pages) parts.0, fresh_length)))
       (same_entry p pages after s.meta.entry s.meta.level (λ at level. ap (is_of_level level) (head_same at)) ∙ parts.1)
 
   pub fresh_stands : Stands after (record g { blocks = g.blocks + count })
   fresh_stands =
       stands_from after (record g { blocks = g.blocks + count }) s.meta (root_same ∙ s.read) root_so
       (λ block low. page_so block (node_pages pages g s block low))
-      s.params s.entry s.level s.hint (ap (λ n. n + count) s.blocks ∙ sym many) (λ at. s.nodes at ∙ sym (node_same at))
+      s.params s.entry s.level s.hint (ap (λ n. n + count) s.blocks ∙ sym fresh_length) (λ at. s.nodes at ∙ sym (node_same at))

@@ -28,3 +28,7 @@ pub mod MarkFits
 pub mod OneBlock
 pub mod PutOldEffect
 pub mod PutOldFits
+pub mod ItemAdded
+pub mod Unnamed
+pub mod TwoNew
+pub mod PutNewEffect

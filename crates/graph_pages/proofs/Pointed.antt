@@ -11,7 +11,7 @@ use Rattle.page_bytes.specs.Content.{Content, item_at}
 use Rattle.graph_pages.specs.Standing.{item_in, pointer_of, pointers_on, pointers, is_place, times_in}
 use Rattle.graph_pages.proofs.Given.{then_is}
 
-times_both : (at : Tid) (xs ys : List Tid) → times_in at (xs ++ ys) ≡ times_in at xs + times_in at ys
+pub times_both : (at : Tid) (xs ys : List Tid) → times_in at (xs ++ ys) ≡ times_in at xs + times_in at ys
 times_both at xs ys = sum_by-append (λ t. cond (is_place at t) 1 0) xs ys
 
 -- what an element of a list names is named by the list
@@ -51,6 +51,15 @@ item_two : (f : List ℕ → List Tid) (at : Tid) (items : List (List ℕ)) (a b
 item_two f at items zero b x y apart is also = absurd cc
 item_two f at items (suc a) zero x y apart is also = absurd cc
 item_two f at items (suc a) (suc b) x y apart is also = times_two f at items a b x y (λ e. apart (ap (λ n. suc n) e)) is also
+
+-- an item names a place no more often than all do
+pub named_here : (p : Params) (pages : List Content) (at a : Tid) (x : List ℕ) → item_in pages a ≡ Some x
+    → times_in at (pointer_of p x) ≤ times_in at (pointers p pages)
+named_here p pages at a x is =
+    let here = then_is (λ (c : Content). item_at c.items a.off) (slice_get pages a.block) x is in
+    let on_page : times_in at (pointer_of p x) ≤ times_in at (pointers_on p here.0) = item_one (pointer_of p) at here.0.items a.off x here.2 in
+    let in_all : times_in at (pointers_on p here.0) ≤ times_in at (pointers p pages) = times_one (pointers_on p) at pages a.block here.0 here.1 in
+    omega (arith, on_page, in_all)
 
 -- two items that name a place stand at one place, where it is named once
 pub named_once : (p : Params) (pages : List Content) (at a b : Tid) (x y : List ℕ) → times_in at (pointers p pages) ≡ 1

@@ -56,7 +56,7 @@ old_version : (deleted : Bool) (found version : ℕ) → (deleted && found == ve
 old_version true found version is = eqb-true found version is
 old_version false found version is = absurd cc
 
-any_slots : (slots : List (Option Tid)) → AllByRecursion (IsSlotOf false) slots
+pub any_slots : (slots : List (Option Tid)) → AllByRecursion (IsSlotOf false) slots
 any_slots [] = tt
 any_slots (slot ∷ slots) = (tt, any_slots slots)
 
@@ -68,12 +68,13 @@ some_m Hnsw p is range = range.m_low
 some_m Ivf p is range = absurd cc
 
 -- what a node is that has tuples
-record IsNode (p : Params) (n : NewNode) : Type 0 where
-  version : 1 ≤ n.version
-  bits : length n.bits ≡ p.bits
-  slots : length n.slots ≡ slots_of_level p.m n.level
+pub record IsNode (p : Params) (n : NewNode) : Type 0 where
+  pub version : 1 ≤ n.version
+  pub bits : length n.bits ≡ p.bits
+  pub slots : length n.slots ≡ slots_of_level p.m n.level
+  pub few : length n.slots ≤ MOST_SLOTS
 
-node_is : (p : Params) (n : NewNode) → is_node p n ≡ true → IsNode p n
+pub node_is : (p : Params) (n : NewNode) → is_node p n ≡ true → IsNode p n
 node_is p n is =
     let a = and_parts (nat_le 1 n.version) (length n.bits == p.bits && (length n.slots == slots_of_level p.m n.level && nat_le (length n.slots) MOST_SLOTS)) is in
     let b = and_parts (length n.bits == p.bits) (length n.slots == slots_of_level p.m n.level && nat_le (length n.slots) MOST_SLOTS) a.1 in
@@ -82,6 +83,7 @@ node_is p n is =
       version = leb-true 1 n.version a.0;
       bits = eqb-true (length n.bits) p.bits b.0;
       slots = eqb-true (length n.slots) (slots_of_level p.m n.level) c.0;
+      few = leb-true (length n.slots) MOST_SLOTS c.1;
     }
 
 -- what the first change found and made

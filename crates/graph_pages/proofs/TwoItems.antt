@@ -46,11 +46,11 @@ pub record AreBoth (p : Params) (list_at : Tid) (x y u v : List ℕ) (e f : Elem
   pub version : k.version ≡ f.version
   pub deleted : k.deleted ≡ f.deleted
 
-or_first : (a b : Bool) → a ≡ true → (a || b) ≡ true
+pub or_first : (a b : Bool) → a ≡ true → (a || b) ≡ true
 or_first true b is = refl
 or_first false b is = absurd cc
 
-same_flag : (a b : Bool) → a ≡ b → beq a b ≡ true
+pub same_flag : (a b : Bool) → a ≡ b → beq a b ≡ true
 same_flag true true is = refl
 same_flag true false is = absurd cc
 same_flag false true is = absurd cc

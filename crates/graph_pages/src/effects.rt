@@ -1,9 +1,9 @@
-//! What redo of an event that changes tuples which stand there makes of the graph that the pages stand for: laws, and no work.
+//! What redo of an event makes of the graph that the pages stand for: laws, and no work.
 //!
 //! Redo itself tests versions, deleted states, and the numbers of ids and slots. What a law asks besides is what an event that
 //! the rules allow gives.
 
-ghost use Rattle.std.specs.Prelude.{◌≡◌, ◌≤◌, ◌<◌, ◌+◌, ◌++◌, ◌∷◌, [], ℕ, Bool, List, length, Option, Some, slice_get, replicate, All};
+ghost use Rattle.std.specs.Prelude.{◌≡◌, ◌≤◌, ◌<◌, ◌+◌, ◌++◌, ◌∷◌, [], ℕ, Bool, List, length, Option, Some, None, slice_get, replicate, All};
 ghost use Rattle.vec_names.specs.declared.tid.Tid.{Tid as Place};
 ghost use Rattle.vec_names.specs.declared.heap_id.HeapId.{HeapId};
 ghost use Rattle.vec_names.specs.declared.params.Params.{Params as AnyParams};
@@ -15,10 +15,11 @@ ghost use Rattle.vec_graph.specs.declared.graph.Graph.{Graph};
 ghost use Rattle.vec_graph.specs.Graph.{node_at, HasLevel};
 ghost use Rattle.vec_graph.specs.Effect.{effect};
 ghost use Rattle.page_redo.specs.Redo.{touched};
-ghost use Rattle.graph_pages.specs.Standing.{Stands};
+ghost use Rattle.graph_pages.specs.Standing.{item_in, Stands};
 ghost use Rattle.graph_pages.specs.Effects.{RedoIsEffect, AreRedone};
-ghost use Rattle.graph_pages.specs.Growing.{fresh_page};
+ghost use Rattle.graph_pages.specs.Growing.{fresh_page, blocks_after, AreAllRedone};
 
+use index_sizes::MOST_BLOCKS;
 use page_bytes::PageKind;
 
 /// A law, and no work. Redo of another hint is that event's effect on the graph, where the graph has so many blocks.
@@ -76,6 +77,19 @@ pub fn law_put_again()
         → node_at g at ≡ Some n → n.list_at ≡ list_at
         → ((slot : ℕ) (to : Place) → slice_get lists slot ≡ Some (Some to) → to.block < g.blocks)
         → AreRedone g.params wrap number (Put at list_at version level id bits lists) pages after
+        → Stands after (effect wrap (Put at list_at version level id bits lists) g) }
+{}
+
+/// A law, and no work. Redo of a new node at two places where no item stands, on one page or on two, which the event may make, is that
+/// event's effect on the graph, where each place that its slots name is on one of the blocks that there are after it. The version and
+/// the level have one byte each.
+pub fn law_put_new()
+    ensures { (pages after : List Content) (g : Graph) (at list_at : Place) (version level : ℕ) (id : HeapId) (bits : List Bool)
+        (lists : List (Option Place)) (wrap number : ℕ) → length pages ≤ MOST_BLOCKS → All IsPage pages → Stands pages g
+        → version ≤ 255 → level ≤ 255 → item_in pages at ≡ None → item_in pages list_at ≡ None
+        → ((slot : ℕ) (to : Place) → slice_get lists slot ≡ Some (Some to)
+        → to.block < blocks_after (Put at list_at version level id bits lists) (length pages))
+        → AreAllRedone g.params wrap number (Put at list_at version level id bits lists) pages after
         → Stands after (effect wrap (Put at list_at version level id bits lists) g) }
 {}
 
