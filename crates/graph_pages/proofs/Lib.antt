@@ -32,3 +32,4 @@ pub mod ItemAdded
 pub mod Unnamed
 pub mod TwoNew
 pub mod PutNewEffect
+pub mod PutNewFits

@@ -39,7 +39,7 @@ use Rattle.graph_pages.proofs.HeadEffect.{params_in_range}
 use Rattle.graph_pages.proofs.RoleFits.{of_graph_kind, tuple_there, node_there, list_alike}
 use Rattle.graph_pages.proofs.MarkFits.{two_first, two_second, two_both, two_offsets, not_touched}
 
-so_is : (a b : Bool) (o : Option Content) (d : Content) → a ≡ true → b ≡ true → o ≡ Some d → if_so a (if_so b o) ≡ Some d
+pub so_is : (a b : Bool) (o : Option Content) (d : Content) → a ≡ true → b ≡ true → o ≡ Some d → if_so a (if_so b o) ≡ Some d
 so_is a b o d a_is b_is is = rw (a_is, b_is) is
 
 over_is : (o : Option (List ℕ)) (item : List ℕ) (off : ℕ) (go : Bool) (x : List ℕ) (c : Content) → o ≡ Some item → go ≡ true → length item ≡ length x
@@ -47,7 +47,7 @@ over_is : (o : Option (List ℕ)) (item : List ℕ) (off : ℕ) (go : Bool) (x :
 over_is o item off go x c is goes long = rw (is, goes, eq-eqb (length item) (length x) long) refl
 
 -- the page of a block that is touched, and what redo makes of it
-abbrev IsPutAt : List Content → Params → NewNode → ℕ → ℕ → Type 0
+abbrev pub IsPutAt : List Content → Params → NewNode → ℕ → ℕ → Type 0
 IsPutAt pages p n number block =
     (page : Content) × (slice_get pages block ≡ Some page) × (after : Content)
     × (option_map (numbered number) (at_two n.at.block (put_element p n) n.list_at.block (put_links p n) block page) ≡ Some after)

@@ -1,4 +1,4 @@
-//! That redo takes an event which changes tuples of a graph, on the pages that stand for that graph: laws, and no work.
+//! That redo takes an event which puts or changes tuples of a graph, on the pages that stand for that graph: laws, and no work.
 //!
 //! An event fits where each block that it touches has a page, and redo makes another page of that one. What a law asks is what
 //! the rules ask of the node in the graph, as far as redo tests it; of the hint redo asks that it is at most 32,768.
@@ -14,9 +14,10 @@ ghost use Rattle.vec_graph.specs.Graph.{node_at};
 ghost use Rattle.vec_graph.specs.Rules.{IsThere};
 ghost use Rattle.index_sizes.specs.Sizes.{slots_of_level};
 ghost use Rattle.graph_pages.specs.Standing.{Stands};
-ghost use Rattle.graph_pages.specs.Fitting.{FitsEach};
+ghost use Rattle.graph_pages.specs.Fitting.{FitsEach, AreNextPlaces};
+ghost use Rattle.graph_pages.specs.Growing.{extended};
 
-use index_sizes::MOST_BLOCKS;
+use index_sizes::{MOST_BLOCKS, MOST_SLOTS};
 
 /// A law, and no work. A new node fits the pages of a node that is deleted, whose places, version and level it takes, where its value is
 /// of the index's length and it has the slots of its level.
@@ -25,6 +26,16 @@ pub fn law_put_again_fits()
         (lists : List (Option Place)) (n : Node) → All IsPage pages → Stands pages g → node_at g at ≡ Some n → n.list_at ≡ list_at
         → n.deleted ≡ true → n.version ≡ version → n.level ≡ level → length bits ≡ g.params.bits
         → length lists ≡ slots_of_level g.params.m level
+        → FitsEach pages g.params (Put at list_at version level id bits lists) }
+{}
+
+/// A law, and no work. A new node fits the pages of two places on node pages which are the next on these, fresh ones among them, and
+/// have room, where its value is of the index's length and it has the slots of its level, no more than a tuple holds.
+pub fn law_put_new_fits()
+    ensures { (pages : List Content) (g : Graph) (at list_at : Place) (version level : ℕ) (id : HeapId) (bits : List Bool)
+        (lists : List (Option Place)) → All IsPage pages → Stands pages g → 1 ≤ at.block → 1 ≤ list_at.block → 1 ≤ version
+        → length bits ≡ g.params.bits → length lists ≡ slots_of_level g.params.m level → length lists ≤ MOST_SLOTS
+        → AreNextPlaces (extended (Put at list_at version level id bits lists) pages) at list_at (length bits) (length lists)
         → FitsEach pages g.params (Put at list_at version level id bits lists) }
 {}
 
