@@ -33,3 +33,4 @@ pub mod Unnamed
 pub mod TwoNew
 pub mod PutNewEffect
 pub mod PutNewFits
+pub mod FormatKept

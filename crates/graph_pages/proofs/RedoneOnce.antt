@@ -21,7 +21,7 @@ neither : (a : ℕ) (xs : List ℕ) (b : ℕ) → (a ≡ b → ⊥) → (Contain
 neither a xs b apart out (zero, h, e) = apart e
 neither a xs b apart out (suc i, h, e) = out (i, omega (arith, h), e)
 
-is_in : (xs : List ℕ) (b : ℕ) → Contains xs b ⊎ (Contains xs b → ⊥)
+pub is_in : (xs : List ℕ) (b : ℕ) → Contains xs b ⊎ (Contains xs b → ⊥)
 is_in [] b = inr (λ h. absurd (omega (arith, h.1)))
 is_in (a ∷ xs) b = elim (cases_eq a b) as (λ _. Contains (a ∷ xs) b ⊎ (Contains (a ∷ xs) b → ⊥)) [
   | inl e ↦ inl (0, omega arith, e)

@@ -1,11 +1,14 @@
 -- Redo of an event on the pages that stand for a graph.
-use Rattle.std.specs.Prelude.{◌≡◌, ℕ, List, length, slice_get, slice_set, Some, All, Contains}
+use Rattle.std.specs.Prelude.{◌≡◌, ℕ, List, length, slice_get, slice_set, Option, Some, All, Contains}
+use Rattle.std.specs.Option.{option_map, option_and_then}
 use Rattle.vec_names.specs.declared.params.Params.{Params}
 use Rattle.vec_history.specs.declared.event.Event.{Event}
 use Rattle.page_bytes.specs.Content.{Content, IsPage}
 use Rattle.vec_graph.specs.declared.graph.Graph.{Graph}
 use Rattle.vec_graph.specs.Effect.{effect}
 use Rattle.page_redo.specs.Redo.{touched, redone}
+use Rattle.vec_tuples.specs.declared.meta.Meta.{Meta}
+use Rattle.page_redo.specs.PageTuples.{meta_at}
 use Rattle.graph_pages.specs.Standing.{Stands}
 
 -- Where pages stand for the graph, and the event fits the page of a block, these pages with the one that redo makes of it
@@ -21,3 +24,7 @@ pub record AreRedone (params : Params) (wrap number : ℕ) (event : Event) (page
   pub there : (block : ℕ) (page : Content) → Contains (touched event params) block → slice_get pages block ≡ Some page
       → slice_get after block ≡ redone event params wrap number block page
   pub elsewhere : (block : ℕ) → (Contains (touched event params) block → ⊥) → slice_get after block ≡ slice_get pages block
+
+-- the format of the meta tuple, where block 0 has one
+abbrev pub format_in : List Content → Option ℕ
+format_in pages = option_map (λ (m : Meta). m.format) (option_and_then meta_at (slice_get pages 0))

@@ -19,7 +19,7 @@ mod page_places;
 mod standing;
 
 pub use effects::{
-    law_drop, law_entry, law_fresh, law_hint, law_join, law_link, law_mark, law_once,
+    law_drop, law_entry, law_format, law_fresh, law_hint, law_join, law_link, law_mark, law_once,
     law_one_block, law_put_again, law_put_new, law_relist,
 };
 pub use fitting::{
