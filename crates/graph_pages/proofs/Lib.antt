@@ -34,3 +34,4 @@ pub mod TwoNew
 pub mod PutNewEffect
 pub mod PutNewFits
 pub mod FormatKept
+pub mod RedoEffect

@@ -17,6 +17,7 @@ ghost use Rattle.vec_graph.specs.Effect.{effect};
 ghost use Rattle.page_redo.specs.Redo.{touched};
 ghost use Rattle.graph_pages.specs.Standing.{item_in, Stands};
 ghost use Rattle.graph_pages.specs.Effects.{RedoIsEffect, AreRedone, format_in};
+ghost use Rattle.graph_pages.specs.Following.{Follows};
 ghost use Rattle.graph_pages.specs.Growing.{fresh_page, blocks_after, AreAllRedone};
 
 use index_sizes::MOST_BLOCKS;
@@ -99,6 +100,14 @@ pub fn law_one_block()
     ensures { (pages after : List Content) (g : Graph) (event : Events) (wrap number block : ℕ) → All IsPage pages → Stands pages g
         → touched event g.params ≡ block ∷ [] → block < length pages → RedoIsEffect pages g event
         → AreRedone g.params wrap number event pages after → Stands after (effect wrap event g) }
+{}
+
+/// A law, and no work. Redo of an event that follows on pages that stand for a graph, on all blocks that it touches, is its effect on
+/// the graph, whatever its kind.
+pub fn law_redo()
+    ensures { (pages after : List Content) (g : Graph) (event : Events) (wrap number : ℕ) → length pages ≤ MOST_BLOCKS
+        → All IsPage pages → Stands pages g → Follows pages g event → AreAllRedone g.params wrap number event pages after
+        → Stands after (effect wrap event g) }
 {}
 
 /// A law, and no work. Redo keeps the format of the meta tuple, whatever the event. The level of an entry has one byte.
