@@ -8,3 +8,4 @@ pub mod ReadsOfOne
 pub mod AllRows
 pub mod OwnBlocks
 pub mod SameCentres
+pub mod LooksFind

@@ -1,12 +1,16 @@
 //! What the definitions of the index of lists and of its histories mean: laws. A function here does no work.
 
-ghost use Rattle.std.specs.Prelude.{◌≤◌, replicate, ◌≡◌, ◌⊎◌, ℕ, ◌∷◌, [], Bool, true, false, List, map, min, length, IsSorted, IsPermutation};
+ghost use Rattle.std.specs.Prelude.{◌≤◌, Some, None, replicate, ◌≡◌, ◌⊎◌, ℕ, ◌∷◌, [], Bool, true, false, List, map, min, length, IsSorted, IsPermutation};
 ghost use Rattle.vec_history.specs.declared.event.Event.{Event as Events};
-ghost use Rattle.ivf_graph.specs.Answer.{ivf_answer, found, probed, hit_of, hit_of_row};
+ghost use Rattle.std.specs.List.{enumerate_from};
+ghost use Rattle.ivf_graph.specs.Answer.{ivf_answer, found, found_by, found_on, probed, hit_of, hit_of_row};
 ghost use Rattle.bit_dist.specs.Hits.{Hit, hit_cmp};
-ghost use Rattle.ivf_graph.specs.Examples.{four, row_1, row_2, row_3, row_4, row_5, unequal_by, worked_acts, worked_index};
-ghost use Rattle.ivf_graph.specs.Graph.{rows, centres, row_need, AreBlocksApart, AreBlocksOwn};
-ghost use Rattle.ivf_graph.specs.Reads.{centre_pages, IsAnswerAt, IsAnswerFrom};
+ghost use Rattle.ivf_graph.specs.Examples.{four, row_1, row_2, row_3, row_4, row_5, unequal_by, worked_acts, worked_centres, worked_index, grown_index};
+ghost use Rattle.ivf_graph.specs.Graph.{Row, rows, centres, row_need, AreBlocksApart, AreBlocksOwn};
+ghost use Rattle.ivf_graph.specs.Looks.{centre_of, centre_pages, seen_from, told_of};
+ghost use Rattle.ivf_graph.specs.Looks.Look.{AtCentres, AtRows};
+ghost use Rattle.ivf_graph.specs.Looks.Answer.{OfCentres, OfRows};
+ghost use Rattle.ivf_graph.specs.Reads.{centres_read, IsAnswerAt, IsAnswerFrom};
 ghost use Rattle.ivf_graph.specs.Effect.{effect, after, AreRowsChanged};
 ghost use Rattle.ivf_graph.specs.Legal.{IsLegal};
 
@@ -41,6 +45,16 @@ pub fn law_answer(index: &IvfGraph)
         → IsPermutation (map (hit_of_row query) (rows index.now)) (ivf_answer index.now query probes) }
 {}
 
+/// The pages of the centres, each read once, tell of each list once, by its number. The rows that a look at a block
+/// tells are those that a search finds there.
+pub fn law_looks(index: &IvfGraph)
+    ensures centres { (places : ℕ) → places ≤ MOST_BITS
+        → centres_read places 1 (replicate (centre_pages places (length index.now.lists)) index.now)
+        ≡ map centre_of (enumerate_from 0 index.now.lists) }
+    ensures rows { (query : List Bool) (block : ℕ) (rows : List Row)
+        → found_on query (block, rows) ≡ map (found_by query block) (seen_from 1 rows) }
+{}
+
 /// A search whose reads are all of this one state, in which each block stands once in
 /// the chains, answers as the state does; and there is such a search.
 pub fn law_reads(index: &IvfGraph)
@@ -65,6 +79,18 @@ pub fn law_examples()
     ensures behind_it { IsAnswerAt worked_index worked_acts (0 ∷ 1 ∷ []) (four false true true true) 1
         ((unequal_by 1, row_3) ∷ (unequal_by 1, row_5) ∷ (unequal_by 2, row_4) ∷ []) }
     ensures pages { (centre_pages 4 3 ≡ 1) × (centre_pages MOST_BITS MOST_BLOCKS ≡ MOST_BLOCKS) }
+
+    // Block 1 has the centres, and the blocks behind it have rows.
+    ensures look_at_centres { told_of 4 worked_index (AtCentres 1) ≡ Some (OfCentres worked_centres) }
+    ensures look_at_rows { told_of 4 worked_index (AtRows 3)
+        ≡ Some (OfRows (seen_from 1 ((row_3, four true true true true) ∷ (row_4, four true true true false) ∷ [])) None) }
+    ensures look_at_others { (told_of 4 worked_index (AtCentres 2) ≡ None) × (told_of 4 worked_index (AtCentres 0) ≡ None)
+        × (told_of 4 worked_index (AtRows 1) ≡ None) }
+    // List 1 grows by block 5, and aims at it: the next look at the centres tells the aim, and one at block 3 what is behind it.
+    ensures look_behind { (told_of 4 grown_index (AtRows 3)
+        ≡ Some (OfRows (seen_from 1 ((row_3, four true true true true) ∷ (row_4, four true true true false) ∷ [])) (Some 5)))
+        × (told_of 4 grown_index (AtRows 5) ≡ Some (OfRows (seen_from 1 ((row_5, four false true true false) ∷ [])) None)) }
+    ensures look_at_aim { map (λ c. c.aim) (centres_read 4 1 (grown_index ∷ [])) ≡ 2 ∷ 5 ∷ 4 ∷ [] }
 
     // A row of 64,000 places takes 8,020 of a page's 8,160 bytes, so one page has one of them.
     ensures long_row { row_need MOST_BITS ≡ 8020 }

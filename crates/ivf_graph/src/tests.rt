@@ -238,6 +238,7 @@ fn laws_before_any_act(rt: HostRuntime) {
     law_blocks(&base, &acts);
     law_rows(&base);
     law_answer(&base);
+    law_looks(&base);
     law_reads(&base);
     law_examples();
 }
