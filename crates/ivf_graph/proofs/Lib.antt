@@ -9,3 +9,4 @@ pub mod AllRows
 pub mod OwnBlocks
 pub mod SameCentres
 pub mod LooksFind
+pub mod ReadsAtOne

@@ -49,7 +49,12 @@ pub record IsAnswerFrom (states : List IvfGraph) (lists : ℕ) (query : List Boo
       (firsts query probes (centres_read (length query) 1 (take (centre_pages (length query) lists) states))) found
   pub in_order : answer ≡ answer_of found
 
--- the answer of a search whose reads had these positions in the history
-abbrev pub IsAnswerAt : IvfGraph → List Act → List ℕ → List Bool → ℕ → List Hit → Type 0
-IsAnswerAt base acts positions query probes answer =
-    IsAnswerFrom (map (state_after base acts) positions) (length base.lists) query probes answer
+-- positions do not fall, and lie between these two
+abbrev pub IsRising : ℕ → List ℕ → ℕ → Type 0
+IsRising low [] high = low ≤ high
+IsRising low (n ∷ positions) high = (low ≤ n) × IsRising n positions high
+
+-- the answer of a search whose reads had these positions, which the history reaches, one after the other
+pub record IsAnswerAt (base : IvfGraph) (acts : List Act) (positions : List ℕ) (query : List Bool) (probes : ℕ) (answer : List Hit) : Type 0 where
+  pub rising : IsRising 0 positions (length acts)
+  pub answers : IsAnswerFrom (map (state_after base acts) positions) (length base.lists) query probes answer

@@ -11,7 +11,7 @@ ghost use Rattle.ivf_graph.specs.Looks.{centre_of, centre_pages, seen_from, told
 ghost use Rattle.ivf_graph.specs.Looks.Look.{AtCentres, AtRows};
 ghost use Rattle.ivf_graph.specs.Looks.Answer.{OfCentres, OfRows};
 ghost use Rattle.ivf_graph.specs.Reads.{centres_read, IsAnswerAt, IsAnswerFrom};
-ghost use Rattle.ivf_graph.specs.Effect.{effect, after, AreRowsChanged};
+ghost use Rattle.ivf_graph.specs.Effect.{effect, after, state_after, AreRowsChanged};
 ghost use Rattle.ivf_graph.specs.Legal.{IsLegal};
 
 use crate::graph::IvfGraph;
@@ -66,6 +66,17 @@ pub fn law_reads(index: &IvfGraph)
         → (reads : ℕ) × IsAnswerFrom (replicate reads index.now) (length index.now.lists) query probes (ivf_answer index.now query probes) }
 {}
 
+/// A search whose reads all have one position answers as the state there does; and at each position there is such a search.
+pub fn law_still(base: &IvfGraph, acts: &[Act])
+    requires legal { IsLegal base.now acts.now }
+    requires own { AreBlocksOwn base.now }
+    ensures one { (n reads probes : ℕ) (query : List Bool) (answer : List Hit) → length query ≤ MOST_BITS
+        → IsAnswerAt base.now acts.now (replicate reads n) query probes answer
+        → answer ≡ ivf_answer (state_after base.now acts.now n) query probes }
+    ensures some { (n probes : ℕ) (query : List Bool) → n ≤ length acts.now → length query ≤ MOST_BITS
+        → (reads : ℕ) × IsAnswerAt base.now acts.now (replicate reads n) query probes (ivf_answer (state_after base.now acts.now n) query probes) }
+{}
+
 /// Worked examples of the definitions.
 pub fn law_examples()
     // Of the centres 0000, 1110 and 0001 the last two are as near to 0111, and the lower number goes first.
@@ -78,6 +89,11 @@ pub fn law_examples()
         ((unequal_by 1, row_3) ∷ (unequal_by 2, row_4) ∷ []) }
     ensures behind_it { IsAnswerAt worked_index worked_acts (0 ∷ 1 ∷ []) (four false true true true) 1
         ((unequal_by 1, row_3) ∷ (unequal_by 1, row_5) ∷ (unequal_by 2, row_4) ∷ []) }
+    // No read is answered by a state before that of the read before it, nor by one that is still to come.
+    ensures falling { (query : List Bool) (probes : ℕ) (answer : List Hit)
+        → IsAnswerAt worked_index worked_acts (1 ∷ 0 ∷ []) query probes answer → ⊥ }
+    ensures to_come { (query : List Bool) (probes : ℕ) (answer : List Hit)
+        → IsAnswerAt worked_index worked_acts (0 ∷ 2 ∷ []) query probes answer → ⊥ }
     ensures pages { (centre_pages 4 3 ≡ 1) × (centre_pages MOST_BITS MOST_BLOCKS ≡ MOST_BLOCKS) }
 
     // Block 1 has the centres, and the blocks behind it have rows.

@@ -240,5 +240,6 @@ fn laws_before_any_act(rt: HostRuntime) {
     law_answer(&base);
     law_looks(&base);
     law_reads(&base);
+    law_still(&base, &acts);
     law_examples();
 }
