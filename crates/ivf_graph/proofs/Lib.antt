@@ -10,3 +10,7 @@ pub mod OwnBlocks
 pub mod SameCentres
 pub mod LooksFind
 pub mod ReadsAtOne
+pub mod Staying
+pub mod Later
+pub mod Asked
+pub mod AskedExample

@@ -7,7 +7,7 @@ use Rattle.vec_history.specs.declared.event.Act.{Act}
 use Rattle.vec_history.proofs.Prefixes.{cut_after}
 use Rattle.ivf_graph.specs.declared.list.IvfList.{IvfList}
 use Rattle.ivf_graph.specs.declared.graph.IvfGraph.{IvfGraph}
-use Rattle.ivf_graph.specs.Graph.{centres, AreBlocksApart, AreBlocksOwn}
+use Rattle.ivf_graph.specs.Graph.{centres, AreBlocksOwn}
 use Rattle.ivf_graph.specs.Effect.{effect, after, state_after}
 use Rattle.ivf_graph.specs.Legal.{IsAllowed, IsLegal}
 use Rattle.ivf_graph.specs.Answer.{ivf_answer}

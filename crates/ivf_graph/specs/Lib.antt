@@ -2,6 +2,7 @@ pub mod Graph
 pub mod Effect
 pub mod Rules
 pub mod Legal
+pub mod Asking
 pub mod Answer
 pub mod Looks
 pub mod Reads

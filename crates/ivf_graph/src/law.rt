@@ -1,17 +1,21 @@
 //! What the definitions of the index of lists and of its histories mean: laws. A function here does no work.
 
-ghost use Rattle.std.specs.Prelude.{◌≤◌, Some, None, replicate, ◌≡◌, ◌⊎◌, ℕ, ◌∷◌, [], Bool, true, false, List, map, min, length, IsSorted, IsPermutation};
+ghost use Rattle.std.specs.Prelude.{◌≤◌, ◌≢◌, slice_get, take, Some, None, replicate, ◌≡◌, ◌⊎◌, ℕ, ◌∷◌, [], Bool, true, false, List, map, min, length, IsSorted, IsPermutation};
 ghost use Rattle.vec_history.specs.declared.event.Event.{Event as Events};
+ghost use Rattle.vec_history.specs.declared.event.Event.TheVariants.{IvfGrow};
 ghost use Rattle.std.specs.List.{enumerate_from};
 ghost use Rattle.ivf_graph.specs.Answer.{ivf_answer, found, found_by, found_on, probed, hit_of, hit_of_row};
 ghost use Rattle.bit_dist.specs.Hits.{Hit, hit_cmp};
-ghost use Rattle.ivf_graph.specs.Examples.{four, row_1, row_2, row_3, row_4, row_5, unequal_by, worked_acts, worked_centres, worked_index, grown_index};
+ghost use Rattle.ivf_graph.specs.Examples.{four, row_1, row_2, row_3, row_4, row_5, unequal_by, worked_acts, worked_centres, worked_index, growing_acts, grown_index};
 ghost use Rattle.ivf_graph.specs.Graph.{Row, rows, centres, row_need, AreBlocksApart, AreBlocksOwn};
 ghost use Rattle.ivf_graph.specs.Looks.{centre_of, centre_pages, seen_from, told_of};
 ghost use Rattle.ivf_graph.specs.Looks.Look.{AtCentres, AtRows};
 ghost use Rattle.ivf_graph.specs.Looks.Answer.{OfCentres, OfRows};
 ghost use Rattle.ivf_graph.specs.Reads.{centres_read, IsAnswerAt, IsAnswerFrom};
 ghost use Rattle.ivf_graph.specs.Effect.{effect, after, state_after, AreRowsChanged};
+ghost use Rattle.vec_history.specs.declared.event.Act.{Act as Acts};
+ghost use Rattle.ivf_graph.specs.Asking.{IsAsked, IsGranted, IsOfAll};
+ghost use Rattle.ivf_graph.specs.Rules.{IsEventAllowed};
 ghost use Rattle.ivf_graph.specs.Legal.{IsLegal};
 
 use crate::graph::IvfGraph;
@@ -77,6 +81,25 @@ pub fn law_still(base: &IvfGraph, acts: &[Act])
         → (reads : ℕ) × IsAnswerAt base.now acts.now (replicate reads n) query probes (ivf_answer (state_after base.now acts.now n) query probes) }
 {}
 
+/// What the rules ask of a desk's next event, other than what a step answers by a word, holds on while other desks act,
+/// up to the desk's own next act: a block stays in its chain, and what a cut names stays while the desk holds Vacuum Alone.
+/// Of the index where it was so it is asked that its blocks are its own.
+pub fn law_later(base: &IvfGraph, acts: &[Act])
+    requires { IsLegal base.now acts.now }
+    ensures { (n desk : ℕ) (e : Events) → AreBlocksOwn (state_after base.now acts.now n)
+        → ((k : ℕ) (a : Acts) → n ≤ k → slice_get acts.now k ≡ Some a → a.desk ≢ desk)
+        → IsAsked base.now (take n acts.now) desk e → IsAsked base.now acts.now desk e }
+{}
+
+/// An event that the rules allow meets what they ask so; and one that meets it and is granted what a step's words say is
+/// allowed. Settling and faults are not spoken of.
+pub fn law_asked(base: &IvfGraph, acts: &[Act])
+    ensures asked { (desk : ℕ) (e : Events) → (IsOfAll e → ⊥) → IsEventAllowed (after base.now acts.now) acts.now desk e
+        → IsAsked base.now acts.now desk e }
+    ensures allowed { (desk : ℕ) (e : Events) → IsAsked base.now acts.now desk e → IsGranted base.now acts.now desk e
+        → IsEventAllowed (after base.now acts.now) acts.now desk e }
+{}
+
 /// Worked examples of the definitions.
 pub fn law_examples()
     // Of the centres 0000, 1110 and 0001 the last two are as near to 0111, and the lower number goes first.
@@ -107,6 +130,10 @@ pub fn law_examples()
         ≡ Some (OfRows (seen_from 1 ((row_3, four true true true true) ∷ (row_4, four true true true false) ∷ [])) (Some 5)))
         × (told_of 4 grown_index (AtRows 5) ≡ Some (OfRows (seen_from 1 ((row_5, four false true true false) ∷ [])) None)) }
     ensures look_at_aim { map (λ c. c.aim) (centres_read 4 1 (grown_index ∷ [])) ≡ 2 ∷ 5 ∷ 4 ∷ [] }
+
+    // A desk that read block 3 to end list 1 is still asked no more than that when another has grown the list; but block 5 ends it now.
+    ensures grown_by_another { IsAsked worked_index growing_acts 2 (IvfGrow 1 3 6 row_4 (four true true true false))
+        × (IsGranted worked_index growing_acts 2 (IvfGrow 1 3 6 row_4 (four true true true false)) → ⊥) }
 
     // A row of 64,000 places takes 8,020 of a page's 8,160 bytes, so one page has one of them.
     ensures long_row { row_need MOST_BITS ≡ 8020 }

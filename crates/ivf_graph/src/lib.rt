@@ -18,7 +18,10 @@ mod rules;
 
 pub use audit::audit_ivf;
 pub use graph::IvfGraph;
-pub use law::{law_answer, law_blocks, law_examples, law_looks, law_reads, law_rows, law_still};
+pub use law::{
+    law_answer, law_asked, law_blocks, law_examples, law_later, law_looks, law_reads, law_rows,
+    law_still,
+};
 pub use list::IvfList;
 pub use vec_history::AuditFault;
 

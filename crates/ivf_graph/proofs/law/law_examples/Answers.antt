@@ -5,6 +5,7 @@ use Rattle.ivf_graph.specs.Effect.{state_after}
 use Rattle.ivf_graph.specs.Answer.{found_on}
 use Rattle.ivf_graph.specs.Reads.Walks.{done, begins, reads}
 use Rattle.ivf_graph.specs.Examples.{four, row_3, row_4, row_5, worked_acts, worked_index}
+use Rattle.ivf_graph.proofs.AskedExample.{still_asked, not_granted}
 use Rattle.ivf_graph.proofs.law.law_examples.Goals as goal
 
 pub returns-clause-one_probe : goal.returns-clause-one_probe
@@ -29,7 +30,7 @@ returns-clause-before_it c = record {
     enough = lit≤ tt;
     found = found_on (four false true true true) (3, rows_before);
     walked = begins (state_after worked_index worked_acts 0 ∷ []) 3 [] (found_on (four false true true true) (3, rows_before))
-          (reads (state_after worked_index worked_acts 0) [] 3 rows_before [] [] refl done);
+        (reads (state_after worked_index worked_acts 0) [] 3 rows_before [] [] refl done);
     in_order = refl;
   };
 }
@@ -42,7 +43,7 @@ returns-clause-behind_it c = record {
     enough = lit≤ tt;
     found = found_on (four false true true true) (3, rows_behind);
     walked = begins (state_after worked_index worked_acts 1 ∷ []) 3 [] (found_on (four false true true true) (3, rows_behind))
-          (reads (state_after worked_index worked_acts 1) [] 3 rows_behind [] [] refl done);
+        (reads (state_after worked_index worked_acts 1) [] 3 rows_behind [] [] refl done);
     in_order = refl;
   };
 }
@@ -52,3 +53,6 @@ returns-clause-falling c = λ query probes answer a. absurd (omega (arith, a.ris
 
 pub returns-clause-to_come : goal.returns-clause-to_come
 returns-clause-to_come c = λ query probes answer a. absurd (omega (arith, a.rising.1.1))
+
+pub returns-clause-grown_by_another : goal.returns-clause-grown_by_another
+returns-clause-grown_by_another c = (still_asked, not_granted)
