@@ -14,3 +14,5 @@ pub mod Staying
 pub mod Later
 pub mod Asked
 pub mod AskedExample
+pub mod OncePlaced
+pub mod CourseExamples

@@ -6,4 +6,5 @@ pub mod Asking
 pub mod Answer
 pub mod Looks
 pub mod Reads
+pub mod Courses
 pub mod Examples

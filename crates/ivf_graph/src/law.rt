@@ -6,7 +6,7 @@ ghost use Rattle.vec_history.specs.declared.event.Event.TheVariants.{IvfGrow};
 ghost use Rattle.std.specs.List.{enumerate_from};
 ghost use Rattle.ivf_graph.specs.Answer.{ivf_answer, found, found_by, found_on, probed, hit_of, hit_of_row};
 ghost use Rattle.bit_dist.specs.Hits.{Hit, hit_cmp};
-ghost use Rattle.ivf_graph.specs.Examples.{four, row_1, row_2, row_3, row_4, row_5, unequal_by, worked_acts, worked_centres, worked_index, growing_acts, grown_index};
+ghost use Rattle.ivf_graph.specs.Examples.{four, row_1, row_2, row_3, row_4, row_5, unequal_by, worked_acts, worked_centres, worked_index, growing_acts, grown_index, is_row_3, vacuum_acts};
 ghost use Rattle.ivf_graph.specs.Graph.{Row, rows, centres, row_need, AreBlocksApart, AreBlocksOwn};
 ghost use Rattle.ivf_graph.specs.Looks.{centre_of, centre_pages, seen_from, told_of};
 ghost use Rattle.ivf_graph.specs.Looks.Look.{AtCentres, AtRows};
@@ -14,6 +14,9 @@ ghost use Rattle.ivf_graph.specs.Looks.Answer.{OfCentres, OfRows};
 ghost use Rattle.ivf_graph.specs.Reads.{centres_read, IsAnswerAt, IsAnswerFrom};
 ghost use Rattle.ivf_graph.specs.Effect.{effect, after, state_after, AreRowsChanged};
 ghost use Rattle.vec_history.specs.declared.event.Act.{Act as Acts};
+ghost use Rattle.vec_names.specs.declared.heap_id.HeapId.{HeapId as HeapIds};
+ghost use Rattle.ivf_graph.specs.declared.graph.IvfGraph.{IvfGraph as Graphs};
+ghost use Rattle.ivf_graph.specs.Courses.{Turn, events_of, aims_at, IsPlacing, IsInsertFrom, IsInsertedAt, IsVacuumedAt};
 ghost use Rattle.ivf_graph.specs.Asking.{IsAsked, IsGranted, IsOfAll};
 ghost use Rattle.ivf_graph.specs.Rules.{IsEventAllowed};
 ghost use Rattle.ivf_graph.specs.Legal.{IsLegal};
@@ -100,6 +103,14 @@ pub fn law_asked(base: &IvfGraph, acts: &[Act])
         → IsEventAllowed (after base.now acts.now) acts.now desk e }
 {}
 
+/// An insert makes one event that puts its row, with its id and its bits, on the block that it answers: an IvfAdd, or an
+/// IvfGrow of the list that it answers. Then it makes at most one more, by which that list comes to aim at that block.
+pub fn law_insert()
+    ensures { (states : List Graphs) (lists : ℕ) (id : HeapIds) (bits : List Bool) (turns : List Turn) (list block : ℕ)
+        → (i : IsInsertFrom states lists id bits turns list block)
+        → (e : Events) × (events_of turns ≡ e ∷ aims_at i.nearest.aim list block) × IsPlacing list block id bits e }
+{}
+
 /// Worked examples of the definitions.
 pub fn law_examples()
     // Of the centres 0000, 1110 and 0001 the last two are as near to 0111, and the lower number goes first.
@@ -134,6 +145,10 @@ pub fn law_examples()
     // A desk that read block 3 to end list 1 is still asked no more than that when another has grown the list; but block 5 ends it now.
     ensures grown_by_another { IsAsked worked_index growing_acts 2 (IvfGrow 1 3 6 row_4 (four true true true false))
         × (IsGranted worked_index growing_acts 2 (IvfGrow 1 3 6 row_4 (four true true true false)) → ⊥) }
+
+    // The row 1/5 0110 is nearest to list 1, and its aim has room. A vacuum of 1/3 reads all blocks and cuts one.
+    ensures insert { IsInsertedAt worked_index worked_acts 1 (0 ∷ []) (0 ∷ []) row_5 (four false true true false) 1 3 }
+    ensures vacuum { IsVacuumedAt worked_index vacuum_acts 1 4 is_row_3 0 3 (1 ∷ []) (1 ∷ 1 ∷ 1 ∷ 2 ∷ 3 ∷ []) }
 
     // A row of 64,000 places takes 8,020 of a page's 8,160 bytes, so one page has one of them.
     ensures long_row { row_need MOST_BITS ≡ 8020 }

@@ -6,6 +6,7 @@ use Rattle.ivf_graph.specs.Answer.{found_on}
 use Rattle.ivf_graph.specs.Reads.Walks.{done, begins, reads}
 use Rattle.ivf_graph.specs.Examples.{four, row_3, row_4, row_5, worked_acts, worked_index}
 use Rattle.ivf_graph.proofs.AskedExample.{still_asked, not_granted}
+use Rattle.ivf_graph.proofs.CourseExamples.{inserted, vacuumed}
 use Rattle.ivf_graph.proofs.law.law_examples.Goals as goal
 
 pub returns-clause-one_probe : goal.returns-clause-one_probe
@@ -56,3 +57,9 @@ returns-clause-to_come c = λ query probes answer a. absurd (omega (arith, a.ris
 
 pub returns-clause-grown_by_another : goal.returns-clause-grown_by_another
 returns-clause-grown_by_another c = (still_asked, not_granted)
+
+pub returns-clause-insert : goal.returns-clause-insert
+returns-clause-insert c = inserted
+
+pub returns-clause-vacuum : goal.returns-clause-vacuum
+returns-clause-vacuum c = vacuumed
