@@ -9,7 +9,8 @@ use Rattle.ivf_graph.specs.declared.list.IvfList.{IvfList}
 use Rattle.ivf_graph.specs.declared.graph.IvfGraph.{IvfGraph}
 use Rattle.ivf_graph.specs.Graph.{Part, parts, rows_on, AreBlocksApart}
 use Rattle.ivf_graph.specs.Answer.{Found, found_on}
-use Rattle.ivf_graph.specs.Reads.{first_block, links, all_links, next_on, Walks}
+use Rattle.ivf_graph.specs.Looks.{first_block, links, all_links, next_on}
+use Rattle.ivf_graph.specs.Reads.{Walks}
 use Rattle.ivf_graph.specs.Reads.Walks.{done, begins, reads}
 
 -- ---- what reads tell where each block stands once

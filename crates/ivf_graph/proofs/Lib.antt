@@ -8,3 +8,11 @@ pub mod ReadsOfOne
 pub mod AllRows
 pub mod OwnBlocks
 pub mod SameCentres
+pub mod LooksFind
+pub mod ReadsAtOne
+pub mod Staying
+pub mod Later
+pub mod Asked
+pub mod AskedExample
+pub mod OncePlaced
+pub mod CourseExamples

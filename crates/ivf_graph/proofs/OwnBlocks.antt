@@ -25,7 +25,7 @@ use Rattle.ivf_graph.proofs.SameRows.{changed_below, same_chains}
 -- ---- rows change, and blocks stay
 
 module _ (block : ℕ) (change : List Row → List Row) where
-  same_number : (p : Part) → (changed_part block change p).0 ≡ p.0
+  pub same_number : (p : Part) → (changed_part block change p).0 ≡ p.0
   same_number p = by_test (p.0 == block)
     where
       by_test : (b : Bool) → (if b then (p.0, change p.1) else p).0 ≡ p.0
@@ -95,7 +95,7 @@ grown_own g list l block row is next own =
 
 -- ---- histories
 
-own_event : (g : IvfGraph) (acts : List Act) (desk : ℕ) (e : Event) → IsEventAllowed g acts desk e → AreBlocksOwn g → AreBlocksOwn (effect e g)
+pub own_event : (g : IvfGraph) (acts : List Act) (desk : ℕ) (e : Event) → IsEventAllowed g acts desk e → AreBlocksOwn g → AreBlocksOwn (effect e g)
 own_event g acts desk (Put at list_at version level id bits lists) may own = own
 own_event g acts desk (Join at version id) may own = own
 own_event g acts desk (Link at list_at version slot to) may own = own

@@ -16,7 +16,8 @@ use Rattle.bit_dist.specs.Hits.{Hit}
 use Rattle.ivf_graph.specs.Answer.{found, probed, is_nearer, by_nearness, answer_of, ivf_answer}
 use Rattle.index_sizes.specs.declared.limits.TheConstants.{MOST_BITS, PAGE_ROOM}
 use Rattle.index_sizes.specs.Sizes.{item_need, centre_size, centres_on_page}
-use Rattle.ivf_graph.specs.Reads.{first_block, Centre, centre_of, centres_on, centre_pages, centres_read, is_centre_nearer, firsts, Walks, IsAnswerFrom}
+use Rattle.ivf_graph.specs.Looks.{first_block, Centre, centre_of, centres_on, centre_pages}
+use Rattle.ivf_graph.specs.Reads.{centres_read, is_centre_nearer, firsts, Walks, IsAnswerFrom}
 use Rattle.ivf_graph.proofs.ChainsRead.{Told, AreTold, all_told, walked, some_walk}
 
 -- ---- the pages of the centres
@@ -30,15 +31,23 @@ drop-drop zero b xs = ap (λ n. drop n xs) (omega arith)
 drop-drop (suc a) b [] = drop-nil b ∙ sym (drop-nil (suc a + b))
 drop-drop (suc a) b (x ∷ xs) = let one_more : suc (a + b) ≡ suc a + b = omega arith in drop-drop a b xs ∙ ap (λ n. drop n (x ∷ xs)) one_more
 
-centres_from : (g : IvfGraph) (count from k : ℕ)
-    → centres_read count from (replicate k g) ≡ map centre_of (take (k * count) (drop from (enumerate_from 0 g.lists)))
-centres_from g count from zero =
-    let none : 0 ≡ 0 * count = omega arith in
-    ap (λ n. map centre_of (take n (drop from (enumerate_from 0 g.lists)))) none
-centres_from g count from (suc k) =
-    let ys = drop from (enumerate_from 0 g.lists) in
+-- pages from that on a block on, which stands behind block 0
+centres_from : (g : IvfGraph) (places before k : ℕ)
+    → centres_read places (before + 1) (replicate k g)
+    ≡ map centre_of (take (k * centres_on_page places) (drop (before * centres_on_page places) (enumerate_from 0 g.lists)))
+centres_from g places before zero =
+    let none : 0 ≡ 0 * centres_on_page places = omega arith in
+    ap (λ n. map centre_of (take n (drop (before * centres_on_page places) (enumerate_from 0 g.lists)))) none
+centres_from g places before (suc k) =
+    let count = centres_on_page places in
+    let ys = drop (before * count) (enumerate_from 0 g.lists) in
     let more : count + k * count ≡ suc k * count = omega arith in
-    ap (λ l. centres_on count from g ++ l) (centres_from g count (from + count) k ∙ ap (λ l. map centre_of (take (k * count) l)) (sym (drop-drop from count (enumerate_from 0 g.lists))))
+    let this : before + 1 - 1 ≡ before = omega arith in
+    let behind : (before + 1) * count ≡ before * count + count = omega arith in
+    ap (λ n. centres_on count (n * count) g ++ centres_read places (before + 1 + 1) (replicate k g)) this
+    ∙ ap (λ l. centres_on count (before * count) g ++ l) (centres_from g places (before + 1) k
+    ∙ ap (λ n. map centre_of (take (k * count) (drop n (enumerate_from 0 g.lists)))) behind
+    ∙ ap (λ l. map centre_of (take (k * count) l)) (sym (drop-drop (before * count) count (enumerate_from 0 g.lists))))
     ∙ sym (map-append centre_of (take count ys) (take (k * count) (drop count ys)))
     ∙ ap (map centre_of) (sym (take-add count (k * count) ys) ∙ ap (λ n. take n ys) more)
 
@@ -62,10 +71,12 @@ some_a_page places low =
     some_by (PAGE_ROOM / item_need (centre_size places)) (item_need (centre_size places)) (lt-mul-div-succ PAGE_ROOM need) (omega arith)
 
 -- all pages tell the centres of all lists
-all_centres : (g : IvfGraph) (places : ℕ) → places ≤ MOST_BITS
-    → centres_read (centres_on_page places) 0 (replicate (centre_pages places (length g.lists)) g) ≡ map centre_of (enumerate_from 0 g.lists)
+pub all_centres : (g : IvfGraph) (places : ℕ) → places ≤ MOST_BITS
+    → centres_read places 1 (replicate (centre_pages places (length g.lists)) g) ≡ map centre_of (enumerate_from 0 g.lists)
 all_centres g places low =
-    centres_from g (centres_on_page places) 0 (centre_pages places (length g.lists))
+    let none : 0 * centres_on_page places ≡ 0 = omega arith in
+    centres_from g places 0 (centre_pages places (length g.lists))
+    ∙ ap (λ n. map centre_of (take (centre_pages places (length g.lists) * centres_on_page places) (drop n (enumerate_from 0 g.lists)))) none
     ∙ ap (map centre_of) (take_all (centre_pages places (length g.lists) * centres_on_page places) (enumerate_from 0 g.lists)
     (subst (λ n. n ≤ centre_pages places (length g.lists) * centres_on_page places) (sym (length-enumerate_from 0 g.lists)) (covered (length g.lists) (centres_on_page places) (some_a_page places low))))
 
@@ -127,7 +138,7 @@ probed_told g apart query probes =
 -- ---- the answer
 
 told_firsts : (g : IvfGraph) (query : List Bool) (probes : ℕ) → length query ≤ MOST_BITS
-    → firsts query probes (centres_read (centres_on_page (length query)) 0 (replicate (centre_pages (length query) (length g.lists)) g))
+    → firsts query probes (centres_read (length query) 1 (replicate (centre_pages (length query) (length g.lists)) g))
     ≡ filter_map (λ l. first_block l.chain) (probed g query probes)
 told_firsts g query probes low = ap (firsts query probes) (all_centres g (length query) low) ∙ probed_firsts g query probes
 
@@ -137,7 +148,7 @@ answer_of_one g n query probes answer apart low a =
     let pages = centre_pages (length query) (length g.lists) in
     let enough : pages ≤ n = subst (λ m. pages ≤ m) (length-replicate n g) a.enough in
     let same : AllByRecursion (λ s. s ≡ g) (drop pages (replicate n g)) = subst (AllByRecursion (λ s. s ≡ g)) (sym (drop-replicate pages n g)) (all_replicated (n - pages) g) in
-    let begin = ap (λ states. firsts query probes (centres_read (centres_on_page (length query)) 0 states)) (take-replicate pages n g enough)
+    let begin = ap (λ states. firsts query probes (centres_read (length query) 1 states)) (take-replicate pages n g enough)
     ∙ told_firsts g query probes low in
     a.in_order ∙ ap answer_of (walked g query a.walked same [] tt refl (probed g query probes) (probed_told g apart query probes) begin)
 
@@ -150,14 +161,14 @@ some_answer g query probes apart low =
     let taken : replicate pages g ≡ take pages (replicate n g) = sym (take-replicate pages n g (omega arith)) in
     let left : walk.0 ≡ n - pages = omega arith in
     let dropped : replicate walk.0 g ≡ drop pages (replicate n g) = ap (λ k. replicate k g) left ∙ sym (drop-replicate pages n g) in
-    let at_firsts : filter_map (λ l. first_block l.chain) (probed g query probes) ≡ firsts query probes (centres_read (centres_on_page (length query)) 0 (take pages (replicate n g))) =
-    sym (told_firsts g query probes low) ∙ ap (λ states. firsts query probes (centres_read (centres_on_page (length query)) 0 states)) taken in (
+    let at_firsts : filter_map (λ l. first_block l.chain) (probed g query probes) ≡ firsts query probes (centres_read (length query) 1 (take pages (replicate n g))) =
+    sym (told_firsts g query probes low) ∙ ap (λ states. firsts query probes (centres_read (length query) 1 states)) taken in (
       n,
       record {
         enough = subst (λ m. pages ≤ m) (sym (length-replicate n g)) (omega arith);
         found = found g query probes;
         walked =
-            subst (λ states. Walks query states None (firsts query probes (centres_read (centres_on_page (length query)) 0 (take pages (replicate n g)))) (found g query probes)) dropped
+            subst (λ states. Walks query states None (firsts query probes (centres_read (length query) 1 (take pages (replicate n g)))) (found g query probes)) dropped
             (subst (λ later. Walks query (replicate walk.0 g) None later (found g query probes)) at_firsts walk.1);
         in_order = refl;
       },

@@ -12,6 +12,7 @@ use Rattle.list_values.specs.Ranking.{ranked}
 use Rattle.ivf_graph.specs.declared.list.IvfList.{IvfList}
 use Rattle.ivf_graph.specs.declared.graph.IvfGraph.{IvfGraph}
 use Rattle.ivf_graph.specs.Graph.{Row, Part}
+use Rattle.ivf_graph.specs.Looks.{RowSeen}
 
 -- ---- which lists are probed
 
@@ -53,6 +54,10 @@ found_from query block offset (r ∷ rows) =
 
 abbrev pub found_on : List Bool → Part → List Found
 found_on query p = found_from query p.0 1 p.1
+
+-- the row that a look at a block saw
+abbrev pub found_by : List Bool → ℕ → RowSeen → Found
+found_by query block r = record { distance = hamming_of r.bits query; id = r.id; block = block; offset = r.offset }
 
 -- the rows of the probed lists, along their chains
 abbrev pub found : IvfGraph → List Bool → ℕ → List Found

@@ -1,14 +1,18 @@
 -- A worked index: four rows of four places in three lists.
-use Rattle.std.specs.Prelude.{ℕ, Bool, true, false, List, [], ◌∷◌}
+use Rattle.std.specs.Prelude.{ℕ, ◌==◌, ◌&&◌, Bool, true, false, List, [], ◌∷◌, Some}
 use Rattle.std.proofs.Common.{lit<, lit≤}
 use Rattle.vec_names.specs.declared.heap_id.HeapId.{HeapId}
 use Rattle.bit_dist.specs.declared.dist.Dist.{Dist}
 use Rattle.bit_dist.specs.Distances.{one_positive}
 use Rattle.vec_history.specs.declared.event.Event.TheVariants as event
 use Rattle.vec_history.specs.declared.event.Act.{Act}
+use Rattle.vec_history.specs.declared.gate.Gate.TheVariants.{Vacuum}
+use Rattle.vec_history.specs.declared.gate.Hold.TheVariants.{Alone}
 use Rattle.vec_history.specs.Acts.{act_of}
 use Rattle.ivf_graph.specs.declared.list.IvfList.{IvfList}
 use Rattle.ivf_graph.specs.declared.graph.IvfGraph.{IvfGraph}
+use Rattle.ivf_graph.specs.Effect.{after}
+use Rattle.ivf_graph.specs.Looks.{Centre}
 
 abbrev pub four : Bool → Bool → Bool → Bool → List Bool
 four a b c d = a ∷ b ∷ c ∷ d ∷ []
@@ -50,3 +54,27 @@ worked_index = record {
 -- a further row, with the value 0110, comes on block 3
 abbrev pub worked_acts : List Act
 worked_acts = act_of 1 (event.IvfAdd 3 row_5 (four false true true false)) ∷ []
+
+-- what a look at block 1 tells
+abbrev pub worked_centres : List Centre
+worked_centres =
+    record { list = 0; bits = four false false false false; aim = 2; first = Some 2 }
+    ∷ record { list = 1; bits = four true true true false; aim = 3; first = Some 3 }
+    ∷ record { list = 2; bits = four false false false true; aim = 4; first = Some 4 }
+    ∷ []
+
+-- list 1 grows by block 5, where that row comes, and aims at it
+abbrev pub growing_acts : List Act
+growing_acts = act_of 1 (event.IvfGrow 1 3 5 row_5 (four false true true false)) ∷ act_of 1 (event.IvfHint 1 5) ∷ []
+
+abbrev pub grown_index : IvfGraph
+grown_index = after worked_index growing_acts
+
+-- the row 1/3 is called dead
+abbrev pub is_row_3 : HeapId → Bool
+is_row_3 id = (id.block == 1) && (id.off == 3)
+
+-- a vacuum cuts it, and list 1 comes to aim at its block
+abbrev pub vacuum_acts : List Act
+vacuum_acts =
+    act_of 1 (event.Gate Vacuum Alone) ∷ act_of 1 (event.IvfDrop 3 (1 ∷ [])) ∷ act_of 1 (event.IvfHint 1 3) ∷ act_of 1 (event.Ungate Vacuum) ∷ []

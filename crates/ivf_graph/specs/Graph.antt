@@ -1,5 +1,5 @@
 -- The index of lists: chains of blocks, the rows of a block, and the room of a page.
-use Rattle.std.specs.Prelude.{◌<◌, nat_eq, map, ◌≡◌, ℕ, ◌+◌, ◌*◌, ◌-◌, ◌/◌, ◌≤◌, ◌==◌, Bool, List, All, Any, find, length, slice_get, sum_by, Option}
+use Rattle.std.specs.Prelude.{◌<◌, nat_eq, map, ◌≡◌, ℕ, ◌+◌, ◌-◌, ◌≤◌, ◌==◌, Bool, List, All, Any, find, length, slice_get, sum_by, Option}
 use Rattle.std.specs.List.{flat_map, IsDistinct}
 use Rattle.std.specs.Option.{option_map}
 use Rattle.index_sizes.specs.declared.limits.TheConstants.{PAGE_ROOM}

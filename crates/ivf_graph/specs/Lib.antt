@@ -2,6 +2,9 @@ pub mod Graph
 pub mod Effect
 pub mod Rules
 pub mod Legal
+pub mod Asking
 pub mod Answer
+pub mod Looks
 pub mod Reads
+pub mod Courses
 pub mod Examples

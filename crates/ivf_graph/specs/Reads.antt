@@ -1,62 +1,24 @@
 -- What a search of the lists answers where each of its reads has a position of its own: first the pages of the centres,
 -- rising, and then the blocks of each probed chain, nearest list first.
-use Rattle.std.specs.Prelude.{◌≡◌, ℕ, ◌+◌, ◌*◌, ◌/◌, ◌≤◌, ◌==◌, Bool, List, [], ◌∷◌, ◌++◌, find, length, map, slice_get, take, drop, Option, Some, None}
-use Rattle.std.specs.List.{flat_map, filter_map, enumerate_from}
-use Rattle.std.specs.Option.{option_map, option_and_then}
-use Rattle.std.specs.Int.{div_ceil}
+use Rattle.std.specs.Prelude.{◌≡◌, ℕ, ◌+◌, ◌≤◌, Bool, List, [], ◌∷◌, ◌++◌, length, map, take, drop, Option, Some, None}
+use Rattle.std.specs.List.{filter_map}
 use Rattle.std.specs.Ordering.{is_lt}
-use Rattle.index_sizes.specs.Sizes.{centres_on_page}
 use Rattle.bit_dist.specs.Distances.{hamming_of}
+use Rattle.bit_dist.specs.Hits.{Hit}
 use Rattle.list_values.specs.Ranking.{ranked}
 use Rattle.vec_history.specs.declared.event.Act.{Act}
-use Rattle.ivf_graph.specs.declared.list.IvfList.{IvfList}
 use Rattle.ivf_graph.specs.declared.graph.IvfGraph.{IvfGraph}
-use Rattle.ivf_graph.specs.Graph.{Row, Part, rows_on}
+use Rattle.ivf_graph.specs.Graph.{Row, rows_on}
 use Rattle.ivf_graph.specs.Effect.{state_after}
-use Rattle.bit_dist.specs.Hits.{Hit}
+use Rattle.ivf_graph.specs.Looks.{next_on, Centre, centre_pages, centres_of_block}
 use Rattle.ivf_graph.specs.Answer.{near_cmp, Found, found_on, answer_of}
-
--- ---- what a read tells
-
--- the block that begins a chain
-abbrev pub first_block : List Part → Option ℕ
-first_block chain = option_map (λ p. p.0) (slice_get chain 0)
-
--- each block of a chain, with the block behind it
-abbrev pub links : List Part → List (ℕ × Option ℕ)
-links [] = []
-links (p ∷ chain) = (p.0, first_block chain) ∷ links chain
-
-abbrev pub all_links : IvfGraph → List (ℕ × Option ℕ)
-all_links g = flat_map (λ l. links l.chain) g.lists
-
--- the block behind a block in its chain, if there is one
-abbrev pub next_on : IvfGraph → ℕ → Option ℕ
-next_on g block = option_and_then (λ e. e.1) (find (λ e. e.0 == block) (all_links g))
-
--- of a list: its number, its centre, and the block that begins its chain
-pub record Centre : Type 0 where
-  pub list : ℕ
-  pub bits : List Bool
-  pub first : Option ℕ
-
-abbrev pub centre_of : (ℕ × IvfList) → Centre
-centre_of e = record { list = e.0; bits = e.1.centre; first = first_block e.1.chain }
-
--- the centres of so many lists, from that of a number on
-abbrev pub centres_on : ℕ → ℕ → IvfGraph → List Centre
-centres_on count from g = map centre_of (take count (drop from (enumerate_from 0 g.lists)))
 
 -- ---- the pages of the centres
 
--- on how many pages the centres of so many lists stand
-abbrev pub centre_pages : ℕ → ℕ → ℕ
-centre_pages places lists = div_ceil lists (centres_on_page places)
-
--- the centres told by a read of each page, rising, each in a state of its own
+-- the centres told by a read of each page, from that on a block on, rising, each in a state of its own
 abbrev pub centres_read : ℕ → ℕ → List IvfGraph → List Centre
-centres_read count from [] = []
-centres_read count from (g ∷ states) = centres_on count from g ++ centres_read count (from + count) states
+centres_read places block [] = []
+centres_read places block (g ∷ states) = centres_of_block places block g ++ centres_read places (block + 1) states
 
 -- ---- the chains
 
@@ -84,10 +46,15 @@ pub record IsAnswerFrom (states : List IvfGraph) (lists : ℕ) (query : List Boo
   pub enough : centre_pages (length query) lists ≤ length states
   pub found : List Found
   pub walked : Walks query (drop (centre_pages (length query) lists) states) None
-      (firsts query probes (centres_read (centres_on_page (length query)) 0 (take (centre_pages (length query) lists) states))) found
+      (firsts query probes (centres_read (length query) 1 (take (centre_pages (length query) lists) states))) found
   pub in_order : answer ≡ answer_of found
 
--- the answer of a search whose reads had these positions in the history
-abbrev pub IsAnswerAt : IvfGraph → List Act → List ℕ → List Bool → ℕ → List Hit → Type 0
-IsAnswerAt base acts positions query probes answer =
-    IsAnswerFrom (map (state_after base acts) positions) (length base.lists) query probes answer
+-- positions do not fall, and lie between these two
+abbrev pub IsRising : ℕ → List ℕ → ℕ → Type 0
+IsRising low [] high = low ≤ high
+IsRising low (n ∷ positions) high = (low ≤ n) × IsRising n positions high
+
+-- the answer of a search whose reads had these positions, which the history reaches, one after the other
+pub record IsAnswerAt (base : IvfGraph) (acts : List Act) (positions : List ℕ) (query : List Bool) (probes : ℕ) (answer : List Hit) : Type 0 where
+  pub rising : IsRising 0 positions (length acts)
+  pub answers : IsAnswerFrom (map (state_after base acts) positions) (length base.lists) query probes answer

@@ -1,13 +1,24 @@
 //! What the definitions of the index of lists and of its histories mean: laws. A function here does no work.
 
-ghost use Rattle.std.specs.Prelude.{◌≤◌, replicate, ◌≡◌, ◌⊎◌, ℕ, ◌∷◌, [], Bool, true, false, List, map, min, length, IsSorted, IsPermutation};
+ghost use Rattle.std.specs.Prelude.{◌≤◌, ◌≢◌, slice_get, take, Some, None, replicate, ◌≡◌, ◌⊎◌, ℕ, ◌∷◌, [], Bool, true, false, List, map, min, length, IsSorted, IsPermutation};
 ghost use Rattle.vec_history.specs.declared.event.Event.{Event as Events};
-ghost use Rattle.ivf_graph.specs.Answer.{ivf_answer, found, probed, hit_of, hit_of_row};
+ghost use Rattle.vec_history.specs.declared.event.Event.TheVariants.{IvfGrow};
+ghost use Rattle.std.specs.List.{enumerate_from};
+ghost use Rattle.ivf_graph.specs.Answer.{ivf_answer, found, found_by, found_on, probed, hit_of, hit_of_row};
 ghost use Rattle.bit_dist.specs.Hits.{Hit, hit_cmp};
-ghost use Rattle.ivf_graph.specs.Examples.{four, row_1, row_2, row_3, row_4, row_5, unequal_by, worked_acts, worked_index};
-ghost use Rattle.ivf_graph.specs.Graph.{rows, centres, row_need, AreBlocksApart, AreBlocksOwn};
-ghost use Rattle.ivf_graph.specs.Reads.{centre_pages, IsAnswerAt, IsAnswerFrom};
-ghost use Rattle.ivf_graph.specs.Effect.{effect, after, AreRowsChanged};
+ghost use Rattle.ivf_graph.specs.Examples.{four, row_1, row_2, row_3, row_4, row_5, unequal_by, worked_acts, worked_centres, worked_index, growing_acts, grown_index, is_row_3, vacuum_acts};
+ghost use Rattle.ivf_graph.specs.Graph.{Row, rows, centres, row_need, AreBlocksApart, AreBlocksOwn};
+ghost use Rattle.ivf_graph.specs.Looks.{centre_of, centre_pages, seen_from, told_of};
+ghost use Rattle.ivf_graph.specs.Looks.Look.{AtCentres, AtRows};
+ghost use Rattle.ivf_graph.specs.Looks.Answer.{OfCentres, OfRows};
+ghost use Rattle.ivf_graph.specs.Reads.{centres_read, IsAnswerAt, IsAnswerFrom};
+ghost use Rattle.ivf_graph.specs.Effect.{effect, after, state_after, AreRowsChanged};
+ghost use Rattle.vec_history.specs.declared.event.Act.{Act as Acts};
+ghost use Rattle.vec_names.specs.declared.heap_id.HeapId.{HeapId as HeapIds};
+ghost use Rattle.ivf_graph.specs.declared.graph.IvfGraph.{IvfGraph as Graphs};
+ghost use Rattle.ivf_graph.specs.Courses.{Turn, events_of, aims_at, IsPlacing, IsInsertFrom, IsInsertedAt, IsVacuumedAt};
+ghost use Rattle.ivf_graph.specs.Asking.{IsAsked, IsGranted, IsOfAll};
+ghost use Rattle.ivf_graph.specs.Rules.{IsEventAllowed};
 ghost use Rattle.ivf_graph.specs.Legal.{IsLegal};
 
 use crate::graph::IvfGraph;
@@ -41,6 +52,16 @@ pub fn law_answer(index: &IvfGraph)
         → IsPermutation (map (hit_of_row query) (rows index.now)) (ivf_answer index.now query probes) }
 {}
 
+/// The pages of the centres, each read once, tell of each list once, by its number. The rows that a look at a block
+/// tells are those that a search finds there.
+pub fn law_looks(index: &IvfGraph)
+    ensures centres { (places : ℕ) → places ≤ MOST_BITS
+        → centres_read places 1 (replicate (centre_pages places (length index.now.lists)) index.now)
+        ≡ map centre_of (enumerate_from 0 index.now.lists) }
+    ensures rows { (query : List Bool) (block : ℕ) (rows : List Row)
+        → found_on query (block, rows) ≡ map (found_by query block) (seen_from 1 rows) }
+{}
+
 /// A search whose reads are all of this one state, in which each block stands once in
 /// the chains, answers as the state does; and there is such a search.
 pub fn law_reads(index: &IvfGraph)
@@ -50,6 +71,44 @@ pub fn law_reads(index: &IvfGraph)
         → answer ≡ ivf_answer index.now query probes }
     ensures some { (probes : ℕ) (query : List Bool) → length query ≤ MOST_BITS
         → (reads : ℕ) × IsAnswerFrom (replicate reads index.now) (length index.now.lists) query probes (ivf_answer index.now query probes) }
+{}
+
+/// A search whose reads all have one position answers as the state there does; and at each position there is such a search.
+pub fn law_still(base: &IvfGraph, acts: &[Act])
+    requires legal { IsLegal base.now acts.now }
+    requires own { AreBlocksOwn base.now }
+    ensures one { (n reads probes : ℕ) (query : List Bool) (answer : List Hit) → length query ≤ MOST_BITS
+        → IsAnswerAt base.now acts.now (replicate reads n) query probes answer
+        → answer ≡ ivf_answer (state_after base.now acts.now n) query probes }
+    ensures some { (n probes : ℕ) (query : List Bool) → n ≤ length acts.now → length query ≤ MOST_BITS
+        → (reads : ℕ) × IsAnswerAt base.now acts.now (replicate reads n) query probes (ivf_answer (state_after base.now acts.now n) query probes) }
+{}
+
+/// What the rules ask of a desk's next event, other than what a step answers by a word, holds on while other desks act,
+/// up to the desk's own next act: a block stays in its chain, and what a cut names stays while the desk holds Vacuum Alone.
+/// Of the index where it was so it is asked that its blocks are its own.
+pub fn law_later(base: &IvfGraph, acts: &[Act])
+    requires { IsLegal base.now acts.now }
+    ensures { (n desk : ℕ) (e : Events) → AreBlocksOwn (state_after base.now acts.now n)
+        → ((k : ℕ) (a : Acts) → n ≤ k → slice_get acts.now k ≡ Some a → a.desk ≢ desk)
+        → IsAsked base.now (take n acts.now) desk e → IsAsked base.now acts.now desk e }
+{}
+
+/// An event that the rules allow meets what they ask so; and one that meets it and is granted what a step's words say is
+/// allowed. Settling and faults are not spoken of.
+pub fn law_asked(base: &IvfGraph, acts: &[Act])
+    ensures asked { (desk : ℕ) (e : Events) → (IsOfAll e → ⊥) → IsEventAllowed (after base.now acts.now) acts.now desk e
+        → IsAsked base.now acts.now desk e }
+    ensures allowed { (desk : ℕ) (e : Events) → IsAsked base.now acts.now desk e → IsGranted base.now acts.now desk e
+        → IsEventAllowed (after base.now acts.now) acts.now desk e }
+{}
+
+/// An insert makes one event that puts its row, with its id and its bits, on the block that it answers: an IvfAdd, or an
+/// IvfGrow of the list that it answers. Then it makes at most one more, by which that list comes to aim at that block.
+pub fn law_insert()
+    ensures { (states : List Graphs) (lists : ℕ) (id : HeapIds) (bits : List Bool) (turns : List Turn) (list block : ℕ)
+        → (i : IsInsertFrom states lists id bits turns list block)
+        → (e : Events) × (events_of turns ≡ e ∷ aims_at i.nearest.aim list block) × IsPlacing list block id bits e }
 {}
 
 /// Worked examples of the definitions.
@@ -64,7 +123,32 @@ pub fn law_examples()
         ((unequal_by 1, row_3) ∷ (unequal_by 2, row_4) ∷ []) }
     ensures behind_it { IsAnswerAt worked_index worked_acts (0 ∷ 1 ∷ []) (four false true true true) 1
         ((unequal_by 1, row_3) ∷ (unequal_by 1, row_5) ∷ (unequal_by 2, row_4) ∷ []) }
+    // No read is answered by a state before that of the read before it, nor by one that is still to come.
+    ensures falling { (query : List Bool) (probes : ℕ) (answer : List Hit)
+        → IsAnswerAt worked_index worked_acts (1 ∷ 0 ∷ []) query probes answer → ⊥ }
+    ensures to_come { (query : List Bool) (probes : ℕ) (answer : List Hit)
+        → IsAnswerAt worked_index worked_acts (0 ∷ 2 ∷ []) query probes answer → ⊥ }
     ensures pages { (centre_pages 4 3 ≡ 1) × (centre_pages MOST_BITS MOST_BLOCKS ≡ MOST_BLOCKS) }
+
+    // Block 1 has the centres, and the blocks behind it have rows.
+    ensures look_at_centres { told_of 4 worked_index (AtCentres 1) ≡ Some (OfCentres worked_centres) }
+    ensures look_at_rows { told_of 4 worked_index (AtRows 3)
+        ≡ Some (OfRows (seen_from 1 ((row_3, four true true true true) ∷ (row_4, four true true true false) ∷ [])) None) }
+    ensures look_at_others { (told_of 4 worked_index (AtCentres 2) ≡ None) × (told_of 4 worked_index (AtCentres 0) ≡ None)
+        × (told_of 4 worked_index (AtRows 1) ≡ None) }
+    // List 1 grows by block 5, and aims at it: the next look at the centres tells the aim, and one at block 3 what is behind it.
+    ensures look_behind { (told_of 4 grown_index (AtRows 3)
+        ≡ Some (OfRows (seen_from 1 ((row_3, four true true true true) ∷ (row_4, four true true true false) ∷ [])) (Some 5)))
+        × (told_of 4 grown_index (AtRows 5) ≡ Some (OfRows (seen_from 1 ((row_5, four false true true false) ∷ [])) None)) }
+    ensures look_at_aim { map (λ c. c.aim) (centres_read 4 1 (grown_index ∷ [])) ≡ 2 ∷ 5 ∷ 4 ∷ [] }
+
+    // A desk that read block 3 to end list 1 is still asked no more than that when another has grown the list; but block 5 ends it now.
+    ensures grown_by_another { IsAsked worked_index growing_acts 2 (IvfGrow 1 3 6 row_4 (four true true true false))
+        × (IsGranted worked_index growing_acts 2 (IvfGrow 1 3 6 row_4 (four true true true false)) → ⊥) }
+
+    // The row 1/5 0110 is nearest to list 1, and its aim has room. A vacuum of 1/3 reads all blocks and cuts one.
+    ensures insert { IsInsertedAt worked_index worked_acts 1 (0 ∷ []) (0 ∷ []) row_5 (four false true true false) 1 3 }
+    ensures vacuum { IsVacuumedAt worked_index vacuum_acts 1 4 is_row_3 0 3 (1 ∷ []) (1 ∷ 1 ∷ 1 ∷ 2 ∷ 3 ∷ []) }
 
     // A row of 64,000 places takes 8,020 of a page's 8,160 bytes, so one page has one of them.
     ensures long_row { row_need MOST_BITS ≡ 8020 }

@@ -237,7 +237,12 @@ fn laws_before_any_act(rt: HostRuntime) {
     law_alone(&base, &acts);
     law_blocks(&base, &acts);
     law_rows(&base);
+    law_later(&base, &acts);
+    law_asked(&base, &acts);
     law_answer(&base);
+    law_looks(&base);
     law_reads(&base);
+    law_still(&base, &acts);
+    law_insert();
     law_examples();
 }

@@ -6,3 +6,6 @@ law_blocks-requires-clause-own c = none_own _ c.new.ensures
 
 pub law_reads-requires : goal.law_reads-requires
 law_reads-requires c = (none_own (record { lists = c.new.result; blocks = 2 }) c.new.ensures).apart
+
+pub law_still-requires-clause-own : goal.law_still-requires-clause-own
+law_still-requires-clause-own c = none_own _ c.new.ensures
