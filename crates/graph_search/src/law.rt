@@ -1,12 +1,16 @@
 //! What the definition of a search means: laws, and no work.
 
-ghost use Rattle.std.specs.Prelude.{◌≡◌, ◌<◌, ◌≤◌, ℕ, true, List, [], ◌∷◌, length, slice_get, Some};
+ghost use Rattle.std.specs.Prelude.{◌≡◌, ◌<◌, ◌≤◌, ℕ, Bool, true, List, [], ◌∷◌, length, slice_get, Some, None};
 ghost use Rattle.neighbour_pick.specs.declared.found.Found.{Found as Elements};
+ghost use Rattle.vec_names.specs.declared.tid.Tid.{Tid};
+ghost use Rattle.vec_names.specs.declared.params.Ops.{Ops};
 ghost use Rattle.graph_search.specs.Reads.{Look, Answer};
+ghost use Rattle.graph_search.specs.Scan.{FirstBatch};
+ghost use Rattle.graph_search.specs.Insert.{Newcomer, InsertLists};
 ghost use Rattle.std.specs.declared.cmp.Ordering.TheVariants.{Less};
 ghost use Rattle.vec_names.specs.Order.{tid_cmp};
 ghost use Rattle.graph_search.specs.Search.{Start, LayerSearch, is_live, is_before, course_reads};
-ghost use Rattle.graph_search.specs.Examples.{Stand, zeros, last_two, last_three, element_at, from_first, three_turns};
+ghost use Rattle.graph_search.specs.Examples.{Stand, zeros, last_two, last_three, last_one, element_at, from_first, three_turns, one_turn, from_nearest, turns_through, no_entry_reads, gone_entry_reads, nothing_found, no_lists};
 
 /// A law, and no work. The search of one layer gives at most ef elements, each of which was live as it was read, and none
 /// of which comes after one that is farther: they rise by distance, and then by place.
@@ -25,4 +29,32 @@ pub fn law_worked_search()
     ensures { (a b c : Stand) → tid_cmp a.at b.at ≡ Less → tid_cmp a.at c.at ≡ Less → tid_cmp b.at c.at ≡ Less
         → LayerSearch (from_first a) 4 (course_reads 0 (three_turns a b c))
         (element_at a zeros ∷ element_at b last_two ∷ element_at c last_three ∷ []) }
+{}
+
+/// A law, and no work. The same three nodes with ef 1: the first is expanded, is found, and is nearer than what it names, or
+/// as near and at a lower place. So the search ends with it. One that goes on, or keeps one more, is no search.
+pub fn law_worked_search_of_one()
+    ensures { (a b c : Stand) → tid_cmp a.at b.at ≡ Less → tid_cmp a.at c.at ≡ Less → tid_cmp b.at c.at ≡ Less
+        → LayerSearch (from_first a) 1 (course_reads 0 (one_turn a b c)) (element_at a zeros ∷ []) }
+{}
+
+/// A law, and no work. A node that lost its rows is walked through and not kept: 0001 names 1111, which has no row, and that
+/// names 0011. A search for 0001 with ef 4 expands all three, and finds the first and the last, at the distances 0 and 1. The
+/// one between is farther than all found when it is expanded, since fewer than ef are.
+pub fn law_worked_search_through()
+    ensures { (a b c : Stand) → tid_cmp a.at b.at ≡ Less → tid_cmp a.at c.at ≡ Less → tid_cmp b.at c.at ≡ Less
+        → LayerSearch (from_nearest a) 4 (course_reads 0 (turns_through a b c)) (element_at a last_one ∷ element_at c last_two ∷ []) }
+{}
+
+/// A law, and no work. An index without an entry point, and one whose entry point is gone by the time that it is looked at, are
+/// the same to a scan and to an insert: the first batch has no row and is the last, and a new node has no neighbour. No
+/// further look is made.
+pub fn law_no_entry()
+    ensures scan_of_none { (ops : Ops) (query : List Bool) (ef hint blocks : ℕ)
+        → FirstBatch ops query ef (no_entry_reads hint blocks) [] true (nothing_found ops query) }
+    ensures scan_of_gone { (ops : Ops) (query : List Bool) (ef : ℕ) (at : Tid) (level hint blocks : ℕ)
+        → FirstBatch ops query ef (gone_entry_reads at level hint blocks) [] true (nothing_found ops query) }
+    ensures lists_of_none { (n : Newcomer) (hint blocks : ℕ) → InsertLists n (no_entry_reads hint blocks) None (no_lists n) }
+    ensures lists_of_gone { (n : Newcomer) (at : Tid) (level hint blocks : ℕ)
+        → InsertLists n (gone_entry_reads at level hint blocks) None (no_lists n) }
 {}

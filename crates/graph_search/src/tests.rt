@@ -3,6 +3,9 @@ use super::*;
 // The laws need nothing.
 #[test]
 fn laws_of_searches() {
+    law_no_entry();
     law_search();
     law_worked_search();
+    law_worked_search_of_one();
+    law_worked_search_through();
 }
