@@ -1,3 +1,4 @@
 pub mod Ordered
 pub mod WorkedSearch
 pub mod NoEntry
+pub mod Inserting

@@ -161,6 +161,16 @@ links_in (e ∷ events) = one_link e + links_in events
 abbrev pub links_made : ℕ → List Deed → ℕ
 links_made m deeds = links_in (events_of m deeds)
 
+-- whether an event gives the index a row
+abbrev pub is_of_row : Event → Bool
+is_of_row (event.Put at list_at version level id bits lists) = true
+is_of_row (event.Join at version id) = true
+is_of_row _ = false
+
+-- the events of deeds that give the index a row
+abbrev pub rows_made : ℕ → List Deed → List Event
+rows_made m deeds = filter is_of_row (events_of m deeds)
+
 -- ---- deeds of a history
 
 -- the act of this number is the one event, if there is one

@@ -19,7 +19,7 @@ use Rattle.neighbour_pick.specs.Order.{Candidate, candidate_of}
 use Rattle.neighbour_pick.specs.Selection.{picked}
 use Rattle.neighbour_pick.specs.Slots.{slot_of}
 use Rattle.graph_search.specs.Reads.{Look, AtMeta, AtNode, AtList, Answer, Gone, OfMeta, OfList}
-use Rattle.graph_search.specs.Deeds.{NewNode, Change, Joins, PutsOn, PutsNew, Links, Enters, Hints, Takes, Releases, Reply, Done, Placed, NoRoom, Full, NotJoined, Stale, Changed, Deed, looked, asked, looks_of}
+use Rattle.graph_search.specs.Deeds.{NewNode, Change, Joins, PutsOn, PutsNew, Links, Enters, Hints, Takes, Releases, Reply, Done, Placed, NoRoom, Full, NotJoined, Stale, Changed, Deed, looked, asked, looks_of, put_event, rows_made}
 use Rattle.graph_search.specs.Search.{element_of, has_some, LayerSearch}
 use Rattle.graph_search.specs.Descent.{Descent, or_from, start_at}
 
@@ -300,3 +300,16 @@ pub record WholeInsert (params : Params) (id : HeapId) (bits : List Bool) (word 
   pub under : List Deed
   pub course : InsertCourse (newcomer params bits word) id told.hint told.blocks outcome under
   pub deeds_are : deeds ≡ front ++ under ++ asked (Releases Update) Done ∷ []
+
+-- What an insert puts: one new node, with the id and the value, of the level of the word, and with just the lists that looks among its
+-- deeds gave. Nothing else that it does gives the index a row.
+pub record PutsWhatItFound (params : Params) (id : HeapId) (bits : List Bool) (word : ℕ) (place : Place) (deeds : List Deed)
+    : Type 0 where
+  pub before : List Deed
+  pub reads : List (Look × Answer)
+  pub later : List Deed
+  pub deeds_are : deeds ≡ before ++ (looks_of reads ++ later)
+  pub top : Option ℕ
+  pub lists : Lists
+  pub found : InsertLists (newcomer params bits word) reads top lists
+  pub one_row : rows_made params.m deeds ≡ put_event (node_of (newcomer params bits word) id lists) place ∷ []

@@ -6,7 +6,12 @@ ghost use Rattle.vec_names.specs.declared.tid.Tid.{Tid};
 ghost use Rattle.vec_names.specs.declared.params.Ops.{Ops};
 ghost use Rattle.graph_search.specs.Reads.{Look, Answer};
 ghost use Rattle.graph_search.specs.Scan.{FirstBatch};
-ghost use Rattle.graph_search.specs.Insert.{Newcomer, InsertLists};
+ghost use Rattle.vec_names.specs.declared.params.Params.{Params as Parameters};
+ghost use Rattle.vec_names.specs.declared.heap_id.HeapId.{HeapId};
+ghost use Rattle.vec_history.specs.declared.event.Event.TheVariants.{Join};
+ghost use Rattle.vec_graph.specs.declared.place.Place.{Place as Places};
+ghost use Rattle.graph_search.specs.Deeds.{Deed, rows_made};
+ghost use Rattle.graph_search.specs.Insert.{Newcomer, InsertLists, may_join, Outcome, Joined, Put, WholeInsert, PutsWhatItFound};
 ghost use Rattle.std.specs.declared.cmp.Ordering.TheVariants.{Less};
 ghost use Rattle.vec_names.specs.Order.{tid_cmp};
 ghost use Rattle.graph_search.specs.Search.{Start, LayerSearch, is_live, is_before, course_reads};
@@ -57,4 +62,15 @@ pub fn law_no_entry()
     ensures lists_of_none { (n : Newcomer) (hint blocks : ℕ) → InsertLists n (no_entry_reads hint blocks) None (no_lists n) }
     ensures lists_of_gone { (n : Newcomer) (at : Tid) (level hint blocks : ℕ)
         → InsertLists n (gone_entry_reads at level hint blocks) None (no_lists n) }
+{}
+
+/// A law, and no work. A whole insert gives the index one row. Where an element took the id, that is its one event of a row,
+/// and the element had the row's value, and from 1 to 9 ids as it was read. Else it is one Put, of what the insert found.
+pub fn law_insert()
+    ensures joins { (params : Parameters) (id : HeapId) (bits : List Bool) (word : ℕ) (e : Elements) (deeds : List Deed)
+        → WholeInsert params id bits word (Joined e) deeds → rows_made params.m deeds ≡ Join e.at e.version id ∷ [] }
+    ensures equal { (params : Parameters) (id : HeapId) (bits : List Bool) (word : ℕ) (e : Elements) (deeds : List Deed)
+        → WholeInsert params id bits word (Joined e) deeds → may_join bits e ≡ true }
+    ensures puts { (params : Parameters) (id : HeapId) (bits : List Bool) (word : ℕ) (place : Places) (deeds : List Deed)
+        → WholeInsert params id bits word (Put place) deeds → PutsWhatItFound params id bits word place deeds }
 {}
