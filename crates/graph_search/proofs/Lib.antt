@@ -2,3 +2,4 @@ pub mod Ordered
 pub mod WorkedSearch
 pub mod NoEntry
 pub mod Inserting
+pub mod Doing

@@ -1,16 +1,18 @@
 //! What the definition of a search means: laws, and no work.
 
-ghost use Rattle.std.specs.Prelude.{◌≡◌, ◌<◌, ◌≤◌, ℕ, Bool, true, List, [], ◌∷◌, length, slice_get, Some, None};
+ghost use Rattle.std.specs.Prelude.{◌≡◌, ◌↔◌, ◌<◌, ◌≤◌, ℕ, Bool, true, List, [], ◌∷◌, ◌++◌, length, slice_get, Some, None};
 ghost use Rattle.neighbour_pick.specs.declared.found.Found.{Found as Elements};
 ghost use Rattle.vec_names.specs.declared.tid.Tid.{Tid};
 ghost use Rattle.vec_names.specs.declared.params.Ops.{Ops};
-ghost use Rattle.graph_search.specs.Reads.{Look, Answer};
+ghost use Rattle.graph_search.specs.Reads.{Look, Answer, AreReadAt};
 ghost use Rattle.graph_search.specs.Scan.{FirstBatch};
 ghost use Rattle.vec_names.specs.declared.params.Params.{Params as Parameters};
 ghost use Rattle.vec_names.specs.declared.heap_id.HeapId.{HeapId};
 ghost use Rattle.vec_history.specs.declared.event.Event.TheVariants.{Join};
 ghost use Rattle.vec_graph.specs.declared.place.Place.{Place as Places};
-ghost use Rattle.graph_search.specs.Deeds.{Deed, rows_made};
+ghost use Rattle.vec_history.specs.declared.event.Act.{Act as Acts};
+ghost use Rattle.vec_graph.specs.declared.graph.Graph.{Graph as Graphs};
+ghost use Rattle.graph_search.specs.Deeds.{Deed, looks_of, rows_made, AreDoneAt, DidBetween};
 ghost use Rattle.graph_search.specs.Insert.{Newcomer, InsertLists, may_join, Outcome, Joined, Put, WholeInsert, PutsWhatItFound};
 ghost use Rattle.std.specs.declared.cmp.Ordering.TheVariants.{Less};
 ghost use Rattle.vec_names.specs.Order.{tid_cmp};
@@ -73,4 +75,14 @@ pub fn law_insert()
         → WholeInsert params id bits word (Joined e) deeds → may_join bits e ≡ true }
     ensures puts { (params : Parameters) (id : HeapId) (bits : List Bool) (word : ℕ) (place : Places) (deeds : List Deed)
         → WholeInsert params id bits word (Put place) deeds → PutsWhatItFound params id bits word place deeds }
+{}
+
+/// A law, and no work. Deeds that are looks alone are reads of the history; and what a desk did between two positions, and
+/// then between the second and a third, it did between the first and the third.
+pub fn law_deeds()
+    ensures looks { (base : Graphs) (acts : List Acts) (desk : ℕ) (positions : List ℕ) (reads : List (Look × Answer))
+        → AreReadAt base acts positions reads ↔ AreDoneAt base acts desk positions (looks_of reads) }
+    ensures together { (base : Graphs) (acts : List Acts) (desk low mid high : ℕ) (first second : List Deed)
+        → DidBetween base acts desk low mid first → DidBetween base acts desk mid high second
+        → DidBetween base acts desk low high (first ++ second) }
 {}
