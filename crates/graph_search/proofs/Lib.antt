@@ -3,3 +3,4 @@ pub mod WorkedSearch
 pub mod NoEntry
 pub mod Inserting
 pub mod Doing
+pub mod Words

@@ -1,6 +1,6 @@
 //! What the definition of a search means: laws, and no work.
 
-ghost use Rattle.std.specs.Prelude.{◌≡◌, ◌↔◌, ◌<◌, ◌≤◌, ℕ, Bool, true, List, [], ◌∷◌, ◌++◌, length, slice_get, Some, None};
+ghost use Rattle.std.specs.Prelude.{◌≡◌, ◌↔◌, ◌<◌, ◌≤◌, ℕ, Bool, true, List, [], ◌∷◌, ◌++◌, length, slice_get, Option, Some, None};
 ghost use Rattle.neighbour_pick.specs.declared.found.Found.{Found as Elements};
 ghost use Rattle.vec_names.specs.declared.tid.Tid.{Tid};
 ghost use Rattle.vec_names.specs.declared.params.Ops.{Ops};
@@ -12,7 +12,11 @@ ghost use Rattle.vec_history.specs.declared.event.Event.TheVariants.{Join};
 ghost use Rattle.vec_graph.specs.declared.place.Place.{Place as Places};
 ghost use Rattle.vec_history.specs.declared.event.Act.{Act as Acts};
 ghost use Rattle.vec_graph.specs.declared.graph.Graph.{Graph as Graphs};
-ghost use Rattle.graph_search.specs.Deeds.{Deed, looks_of, rows_made, AreDoneAt, DidBetween};
+ghost use Rattle.vec_graph.specs.Places.{place_on};
+ghost use Rattle.vec_graph.specs.Rules.{IsPlaced};
+ghost use Rattle.vec_graph.specs.Asking.{IsFresh, TakesAnId};
+ghost use Rattle.graph_search.specs.Deeds.{NewNode, Joins, PutsOn, PutsNew, Links, Done, Placed, NoRoom, Stale};
+ghost use Rattle.graph_search.specs.Deeds.{Deed, looks_of, rows_made, reply_of, AreDoneAt, DidBetween};
 ghost use Rattle.graph_search.specs.Insert.{Newcomer, InsertLists, may_join, Outcome, Joined, Put, WholeInsert, PutsWhatItFound};
 ghost use Rattle.std.specs.declared.cmp.Ordering.TheVariants.{Less};
 ghost use Rattle.vec_names.specs.Order.{tid_cmp};
@@ -85,4 +89,23 @@ pub fn law_deeds()
     ensures together { (base : Graphs) (acts : List Acts) (desk low mid high : ℕ) (first second : List Deed)
         → DidBetween base acts desk low mid first → DidBetween base acts desk mid high second
         → DidBetween base acts desk low high (first ++ second) }
+{}
+
+/// A law, and no work. What the word to a change says of the graph that it is asked of: where it is done, just what the
+/// rules ask of that event beside the desk's gates and knowledge; where it is Stale, that the node is not as it was read;
+/// where there is no room, that the block has no place.
+pub fn law_words()
+    ensures joins { (g : Graphs) (at : Tid) (version : ℕ) (id : HeapId) → reply_of g (Joins at version id) ≡ Done → TakesAnId g at version }
+    ensures stale_join { (g : Graphs) (at : Tid) (version : ℕ) (id : HeapId) → reply_of g (Joins at version id) ≡ Stale
+        → IsFresh g at version → ⊥ }
+    ensures links { (g : Graphs) (at : Tid) (version : ℕ) (list_at : Tid) (level layer slot : ℕ) (held : Option Tid) (to : Tid)
+        → reply_of g (Links at list_at level version layer slot held to) ≡ Done → IsFresh g at version }
+    ensures stale_link { (g : Graphs) (at : Tid) (version : ℕ) (list_at : Tid) (level layer slot : ℕ) (held : Option Tid) (to : Tid)
+        → reply_of g (Links at list_at level version layer slot held to) ≡ Stale → IsFresh g at version → ⊥ }
+    ensures placed { (g : Graphs) (node : NewNode) (place : Places) (block : ℕ) → reply_of g (PutsOn block node) ≡ Placed place
+        → IsPlaced g place.at node.level place }
+    ensures placed_new { (g : Graphs) (node : NewNode) (place : Places) → reply_of g (PutsNew node) ≡ Placed place
+        → IsPlaced g place.at node.level place }
+    ensures no_room { (g : Graphs) (node : NewNode) (block : ℕ) → reply_of g (PutsOn block node) ≡ NoRoom
+        → place_on g block node.level ≡ None }
 {}
