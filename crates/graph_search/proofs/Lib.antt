@@ -4,3 +4,5 @@ pub mod NoEntry
 pub mod Inserting
 pub mod Doing
 pub mod Words
+pub mod WhereFrom
+pub mod FirstInsert

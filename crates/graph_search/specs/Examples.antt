@@ -4,6 +4,13 @@ use Rattle.std.specs.Prelude.{ℕ, Bool, true, false, List, [], ◌∷◌, Some,
 use Rattle.vec_names.specs.declared.tid.Tid.{Tid}
 use Rattle.vec_names.specs.declared.heap_id.HeapId.{HeapId}
 use Rattle.vec_names.specs.declared.params.Ops.{Ops}
+use Rattle.vec_names.specs.declared.params.Params.{Params}
+use Rattle.vec_names.specs.Levels.{level_of}
+use Rattle.vec_history.specs.declared.event.Event.{Event}
+use Rattle.vec_history.specs.declared.event.Event.TheVariants as event
+use Rattle.vec_history.specs.declared.gate.Gate.TheVariants.{Update}
+use Rattle.vec_history.specs.declared.gate.Hold.TheVariants.{Shared, Alone}
+use Rattle.vec_graph.specs.declared.place.Place.{Place}
 use Rattle.vec_names.specs.declared.params.Ops.TheVariants.{Hamming}
 use Rattle.bit_dist.specs.Distances.{hamming_of}
 use Rattle.neighbour_pick.specs.declared.found.Found.{Found}
@@ -11,7 +18,8 @@ use Rattle.graph_search.specs.Reads.{Look, AtMeta, AtNode, Answer, Gone, OfMeta,
 use Rattle.graph_search.specs.Search.{Turn, Start}
 use Rattle.graph_search.specs.Descent.{start_at}
 use Rattle.graph_search.specs.Scan.{Standing}
-use Rattle.graph_search.specs.Insert.{Newcomer, Lists, no_neighbours}
+use Rattle.graph_search.specs.Deeds.{NewNode, PutsNew, Enters, Takes, Releases, Done, Placed, Deed, asked, put_event}
+use Rattle.graph_search.specs.Insert.{Newcomer, Lists, no_neighbours, MetaTold, meta_look}
 
 abbrev pub zeros : List Bool
 zeros = false ∷ false ∷ false ∷ false ∷ []
@@ -111,3 +119,40 @@ nothing_found ops query = record { start = start_at ops query [] 0; turns = []; 
 -- what an insert gives a node that has no neighbour
 abbrev pub no_lists : Newcomer → Lists
 no_lists n = record { slots = no_neighbours n.m n.level; picks = []; near = [] }
+
+-- ---- the first row of an index
+
+abbrev pub empty_meta : MetaTold
+empty_meta = record { entry = None; level = 0; hint = 1; blocks = 1 }
+
+abbrev pub first_node : Params → HeapId → List Bool → ℕ → NewNode
+first_node params id bits word = record {
+  level = level_of word params.m;
+  id = id;
+  bits = bits;
+  slots = no_neighbours params.m (level_of word params.m);
+}
+
+-- the meta tuple is looked at three times: under each gate, and where the lists are looked for
+abbrev pub first_insert : Params → HeapId → List Bool → ℕ → Place → List Deed
+first_insert params id bits word place =
+    asked (Takes Update Shared) Done
+    ∷ meta_look empty_meta
+    ∷ asked (Releases Update) Done
+    ∷ asked (Takes Update Alone) Done
+    ∷ meta_look empty_meta
+    ∷ meta_look empty_meta
+    ∷ asked (PutsNew (first_node params id bits word)) (Placed place)
+    ∷ asked (Enters place.at (level_of word params.m)) Done
+    ∷ asked (Releases Update) Done
+    ∷ []
+
+abbrev pub first_events : Params → HeapId → List Bool → ℕ → Place → List Event
+first_events params id bits word place =
+    event.Gate Update Shared
+    ∷ event.Ungate Update
+    ∷ event.Gate Update Alone
+    ∷ put_event (first_node params id bits word) place
+    ∷ event.Entry (Some place.at) (level_of word params.m)
+    ∷ event.Ungate Update
+    ∷ []

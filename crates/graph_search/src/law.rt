@@ -16,15 +16,16 @@ ghost use Rattle.vec_graph.specs.Places.{place_on};
 ghost use Rattle.vec_graph.specs.Rules.{IsPlaced};
 ghost use Rattle.vec_graph.specs.Asking.{IsFresh, TakesAnId};
 ghost use Rattle.graph_search.specs.Deeds.{NewNode, Joins, PutsOn, PutsNew, Links, Done, Placed, NoRoom, Stale};
-ghost use Rattle.graph_search.specs.Deeds.{Deed, looks_of, rows_made, reply_of, AreDoneAt, DidBetween};
+ghost use Rattle.graph_search.specs.Deeds.{Deed, looks_of, events_of, rows_made, reply_of, AreDoneAt, DidBetween};
 ghost use Rattle.graph_search.specs.Insert.{Newcomer, InsertLists, may_join, Outcome, Joined, Put, WholeInsert, PutsWhatItFound};
 ghost use Rattle.std.specs.declared.cmp.Ordering.TheVariants.{Less};
 ghost use Rattle.vec_names.specs.Order.{tid_cmp};
-ghost use Rattle.graph_search.specs.Search.{Start, LayerSearch, is_live, is_before, course_reads};
-ghost use Rattle.graph_search.specs.Examples.{Stand, zeros, last_two, last_three, last_one, element_at, from_first, three_turns, one_turn, from_nearest, turns_through, no_entry_reads, gone_entry_reads, nothing_found, no_lists};
+ghost use Rattle.graph_search.specs.Search.{Start, LayerSearch, IsMet, AreExact, is_live, is_before, course_reads};
+ghost use Rattle.graph_search.specs.Examples.{Stand, zeros, last_two, last_three, last_one, element_at, from_first, three_turns, one_turn, from_nearest, turns_through, no_entry_reads, gone_entry_reads, nothing_found, no_lists, first_insert, first_events};
 
 /// A law, and no work. The search of one layer gives at most ef elements, each of which was live as it was read, and none
-/// of which comes after one that is farther: they rise by distance, and then by place.
+/// of which comes after one that is farther: they rise by distance, and then by place. Each
+/// is one that the search began from, or a look of it told it; and where the distances that it began from are exact, all are.
 pub fn law_search()
     ensures few { (s : Start) (ef : ℕ) (reads : List (Look × Answer)) (result : List Elements) → LayerSearch s ef reads result
         → length result ≤ ef }
@@ -32,6 +33,10 @@ pub fn law_search()
         → (i : ℕ) (e : Elements) → slice_get result i ≡ Some e → is_live e ≡ true }
     ensures rising { (s : Start) (ef : ℕ) (reads : List (Look × Answer)) (result : List Elements) → LayerSearch s ef reads result
         → (i j : ℕ) (e f : Elements) → i < j → slice_get result i ≡ Some e → slice_get result j ≡ Some f → is_before f e ≡ true → ⊥ }
+    ensures met { (s : Start) (ef : ℕ) (reads : List (Look × Answer)) (result : List Elements) → LayerSearch s ef reads result
+        → (i : ℕ) (e : Elements) → slice_get result i ≡ Some e → IsMet s reads e }
+    ensures exact { (s : Start) (ef : ℕ) (reads : List (Look × Answer)) (result : List Elements) → AreExact s.ops s.query s.from
+        → LayerSearch s ef reads result → AreExact s.ops s.query result }
 {}
 
 /// A law, and no work. A worked example: of three nodes of the values 0000, 0011 and 0111, whose places rise, a search for
@@ -108,4 +113,13 @@ pub fn law_words()
         → IsPlaced g place.at node.level place }
     ensures no_room { (g : Graphs) (node : NewNode) (block : ℕ) → reply_of g (PutsOn block node) ≡ NoRoom
         → place_on g block node.level ≡ None }
+{}
+
+/// A law, and no work. A worked example: the first row of an index of one block, whose new node stands on block 1, where the
+/// hint is. The gate is taken twice, since the node becomes the entry point; it is put with empty lists; no hint is moved.
+pub fn law_worked_insert()
+    ensures deeds { (params : Parameters) (id : HeapId) (bits : List Bool) (word : ℕ) (place : Places) → place.at.block ≡ 1
+        → WholeInsert params id bits word (Put place) (first_insert params id bits word place) }
+    ensures events { (params : Parameters) (id : HeapId) (bits : List Bool) (word : ℕ) (place : Places)
+        → events_of params.m (first_insert params id bits word place) ≡ first_events params id bits word place }
 {}
