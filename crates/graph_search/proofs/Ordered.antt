@@ -24,7 +24,7 @@ before_strict = ranks_by candidates_total candidate_of
 
 -- ---- a property of all
 
-filter_all : {X : Type 0} (p : X → Bool) (xs : List X) → All_of (λ x. p x ≡ true) (filter p xs)
+pub filter_all : {X : Type 0} (p : X → Bool) (xs : List X) → All_of (λ x. p x ≡ true) (filter p xs)
 unfolding All_of
 filter_all p [] = tt
 filter_all p (x ∷ xs) =

@@ -1,19 +1,25 @@
 -- What an insert does, in order: the lists that a new node gets, and the links back to it. After the HNSW paper's Algorithm 1.
-use Rattle.std.specs.Prelude.{◌≡◌, ℕ, zero, suc, ◌+◌, ◌-◌, ◌*◌, ◌==◌, ◌&&◌, not, nat_lt, nat_le, min, ⊤, ◌⊎◌, if◌then◌else◌, Bool, false, List, [], ◌∷◌, ◌++◌, map, filter, length, replicate, slice_get, Option, Some, None}
+use Rattle.std.specs.Prelude.{◌≡◌, ℕ, zero, suc, ◌+◌, ◌-◌, ◌*◌, ◌==◌, ◌&&◌, not, nat_lt, nat_le, min, ⊤, ◌⊎◌, if◌then◌else◌, Bool, true, false, List, [], ◌∷◌, ◌++◌, map, filter, length, replicate, slice_get, Option, Some, None}
 use Rattle.std.specs.List.{filter_map}
 use Rattle.std.specs.Ordering.{eq_by_cmp}
 use Rattle.vec_names.specs.declared.tid.Tid.{Tid}
 use Rattle.vec_names.specs.declared.heap_id.HeapId.{HeapId}
 use Rattle.vec_names.specs.declared.params.Ops.{Ops}
+use Rattle.vec_names.specs.declared.params.Params.{Params}
+use Rattle.vec_names.specs.Levels.{level_of}
 use Rattle.vec_names.specs.Order.{tid_cmp}
 use Rattle.bit_code.specs.Places.{unequal}
 use Rattle.bit_dist.specs.Distances.{distance_of}
+use Rattle.vec_history.specs.declared.gate.Gate.TheVariants.{Update}
+use Rattle.vec_history.specs.declared.gate.Hold.TheVariants.{Shared, Alone}
+use Rattle.vec_graph.specs.declared.place.Place.{Place}
 use Rattle.neighbour_pick.specs.declared.found.Found.{Found}
 use Rattle.neighbour_pick.specs.declared.found.SlotSeen.{SlotSeen}
 use Rattle.neighbour_pick.specs.Order.{Candidate, candidate_of}
 use Rattle.neighbour_pick.specs.Selection.{picked}
 use Rattle.neighbour_pick.specs.Slots.{slot_of}
-use Rattle.graph_search.specs.Reads.{Look, AtNode, AtList, Answer, Gone, OfList}
+use Rattle.graph_search.specs.Reads.{Look, AtMeta, AtNode, AtList, Answer, Gone, OfMeta, OfList}
+use Rattle.graph_search.specs.Deeds.{NewNode, Change, Joins, PutsOn, PutsNew, Links, Enters, Hints, Takes, Releases, Reply, Done, Placed, NoRoom, Full, NotJoined, Stale, Changed, Deed, looked, asked, looks_of, put_event, rows_made}
 use Rattle.graph_search.specs.Search.{element_of, has_some, LayerSearch}
 use Rattle.graph_search.specs.Descent.{Descent, or_from, start_at}
 
@@ -97,36 +103,11 @@ pub record InsertLists (n : Newcomer) (reads : List (Look × Answer)) (top : Opt
   pub searched : lists_below n top from on lists
   pub reads_are : reads ≡ down ++ on
 
--- ---- changes that are asked for, and their words
-
-pub data Change : Type 0 where
-  Joins : (at : Tid) (version : ℕ) (id : HeapId) → Change
-  PutsOn : (block : ℕ) → Change
-  PutsNew : Change
-  Links : (at list_at : Tid) (level version layer slot : ℕ) (held : Option Tid) (to : Tid) → Change
-  Enters : (to : Tid) (level : ℕ) → Change
-  Hints : (block : ℕ) → Change
-
-pub data Reply : Type 0 where
-  Done : Reply
-  NoRoom : Reply
-  NotJoined : Reply
-  Stale : Reply
-  Changed : Reply
-
--- one step: a look with what it told, or a change that is asked for with its word
-pub data Deed : Type 0 where
-  looked : (look : Look) (told : Answer) → Deed
-  asked : (change : Change) (reply : Reply) → Deed
+-- ---- links back
 
 abbrev pub held_in : Option (Option Tid) → Option Tid
 held_in None = None
 held_in (Some held) = held
-
-abbrev pub looks_of : List (Look × Answer) → List Deed
-looks_of reads = map (λ r. looked r.0 r.1) reads
-
--- ---- links back
 
 -- who is linked to: a node at a place, with a value
 pub record Target : Type 0 where
@@ -205,7 +186,9 @@ abbrev pub IsRefused : Reply → Type 0
 IsRefused NotJoined = ⊤
 IsRefused Stale = ⊤
 IsRefused Done = ⊥
+IsRefused (Placed place) = ⊥
 IsRefused NoRoom = ⊥
+IsRefused Full = ⊥
 IsRefused Changed = ⊥
 
 -- These are asked to take the id, one after the other, until one does. `taken` is that one.
@@ -216,51 +199,117 @@ AsksToJoin id (e ∷ es) deeds taken =
     ⊎ ((reply : Reply) × (rest : List Deed) × IsRefused reply × (deeds ≡ asked (Joins e.at e.version id) reply ∷ rest)
     × AsksToJoin id es rest taken)
 
--- A place is asked for on each of so many blocks, from this one on, until one has room, and then on new blocks. `at` is
--- where the node stands.
-abbrev pub AsksForPlace : ℕ → ℕ → Tid → List Deed → Type 0
-AsksForPlace zero block at deeds = deeds ≡ asked PutsNew Done ∷ []
-AsksForPlace (suc k) block at deeds =
-    ((deeds ≡ asked (PutsOn block) Done ∷ []) × (at.block ≡ block))
-    ⊎ ((rest : List Deed) × (deeds ≡ asked (PutsOn block) NoRoom ∷ rest) × AsksForPlace k (suc block) at rest)
+-- A place for the node is asked for on each of so many blocks, from this one on, until one has room, and then on new blocks.
+-- `place` is what it gets.
+abbrev pub AsksForPlace : NewNode → ℕ → ℕ → Place → List Deed → Type 0
+AsksForPlace node zero block place deeds = deeds ≡ asked (PutsNew node) (Placed place) ∷ []
+AsksForPlace node (suc k) block place deeds =
+    ((deeds ≡ asked (PutsOn block node) (Placed place) ∷ []) × (place.at.block ≡ block))
+    ⊎ ((rest : List Deed) × (deeds ≡ asked (PutsOn block node) NoRoom ∷ rest) × AsksForPlace node k (suc block) place rest)
 
 -- it becomes the entry point where there is none, or its level is above that of the one there is
 abbrev pub entering : Option ℕ → Tid → ℕ → List Deed
 entering None at level = asked (Enters at level) Done ∷ []
 entering (Some top) at level = if nat_lt top level then asked (Enters at level) Done ∷ [] else []
 
--- the block of its element is where the next search for room begins
-abbrev pub hinting : ℕ → Tid → List Deed
-hinting hint at = if at.block == hint then [] else asked (Hints at.block) Done ∷ []
+-- The block of its element is where the next search for room begins. A node above the lowest level moves no hint: it needs more room
+-- than others.
+abbrev pub hinting : ℕ → ℕ → Tid → List Deed
+hinting level hint at = if (level == 0) && not (at.block == hint) then asked (Hints at.block) Done ∷ [] else []
+
+-- what is put: the newcomer with one id, and with just the lists that were found
+abbrev pub node_of : Newcomer → HeapId → Lists → NewNode
+node_of n id lists = record { level = n.level; id = id; bits = n.bits; slots = lists.slots }
 
 -- A new node: a place, the links back, the entry point, the hint.
-pub record PutsNode (n : Newcomer) (hint blocks : ℕ) (top : Option ℕ) (lists : Lists) (at : Tid) (deeds : List Deed) : Type 0 where
+pub record PutsNode (n : Newcomer) (id : HeapId) (hint blocks : ℕ) (top : Option ℕ) (lists : Lists) (place : Place)
+    (deeds : List Deed) : Type 0 where
   pub put : List Deed
-  pub placed : AsksForPlace (blocks - hint) hint at put
+  pub placed : AsksForPlace (node_of n id lists) (blocks - hint) hint place put
   pub back : List Deed
-  pub linked_back : LinksBack (record { ops = n.ops; at = at; bits = n.bits }) lists.picks back
-  pub deeds_are : deeds ≡ put ++ back ++ entering top at n.level ++ hinting hint at
+  pub linked_back : LinksBack (record { ops = n.ops; at = place.at; bits = n.bits }) lists.picks back
+  pub deeds_are : deeds ≡ put ++ back ++ entering top place.at n.level ++ hinting n.level hint place.at
 
 -- what came of it: an element took the id, or a new node stands at a place
 pub data Outcome : Type 0 where
   Joined : (e : Found) → Outcome
-  Put : (at : Tid) → Outcome
+  Put : (place : Place) → Outcome
 
-abbrev pub EndsAs : Newcomer → ℕ → ℕ → Option ℕ → Lists → Option Found → Outcome → List Deed → Type 0
-EndsAs n hint blocks top lists (Some e) outcome deeds = (outcome ≡ Joined e) × (deeds ≡ [])
-EndsAs n hint blocks top lists None (Joined e) deeds = ⊥
-EndsAs n hint blocks top lists None (Put at) deeds = PutsNode n hint blocks top lists at deeds
+abbrev pub EndsAs : Newcomer → HeapId → ℕ → ℕ → Option ℕ → Lists → Option Found → Outcome → List Deed → Type 0
+EndsAs n id hint blocks top lists (Some e) outcome deeds = (outcome ≡ Joined e) × (deeds ≡ [])
+EndsAs n id hint blocks top lists None (Joined e) deeds = ⊥
+EndsAs n id hint blocks top lists None (Put place) deeds = PutsNode n id hint blocks top lists place deeds
 
--- What an insert does under its gate: the lists; the elements that have its value are asked to take the id; else a new
+-- What an insert does once it has its gate: the lists; the elements that have its value are asked to take the id; else a new
 -- node is put. `hint` and `blocks` are what its own last look at the meta tuple told, before.
-pub record InsertCourse (n : Newcomer) (id : HeapId) (hint blocks : ℕ) (lists : Lists) (outcome : Outcome)
-    (deeds : List Deed) : Type 0 where
+pub record InsertCourse (n : Newcomer) (id : HeapId) (hint blocks : ℕ) (outcome : Outcome) (deeds : List Deed) : Type 0 where
   pub reads : List (Look × Answer)
   pub top : Option ℕ
+  pub lists : Lists
   pub found : InsertLists n reads top lists
   pub joins : List Deed
   pub taken : Option Found
   pub asked_to_join : AsksToJoin id (filter (may_join n.bits) lists.near) joins taken
   pub rest : List Deed
-  pub ends : EndsAs n hint blocks top lists taken outcome rest
+  pub ends : EndsAs n id hint blocks top lists taken outcome rest
   pub deeds_are : deeds ≡ looks_of reads ++ joins ++ rest
+
+-- ---- from gate to gate
+
+-- what a look at the meta tuple told
+pub record MetaTold : Type 0 where
+  pub entry : Option Tid
+  pub level : ℕ
+  pub hint : ℕ
+  pub blocks : ℕ
+
+abbrev pub meta_look : MetaTold → Deed
+meta_look t = looked AtMeta (OfMeta t.entry t.level t.hint t.blocks)
+
+-- there is no entry point, or a node of this level is above it
+abbrev pub is_above : ℕ → Option Tid → ℕ → Bool
+is_above level None top = true
+is_above level (Some at) top = nat_lt top level
+
+-- The gate is taken beside others, and the meta tuple looked at. Where the node may become the entry point the gate is released and
+-- taken alone, and the meta tuple looked at again. `told` is what the last look told.
+pub data Opens (level : ℕ) (told : MetaTold) : List Deed → Type 0 where
+  beside : is_above level told.entry told.level ≡ false
+      → Opens level told (asked (Takes Update Shared) Done ∷ meta_look told ∷ [])
+  alone : (first : MetaTold) → is_above level first.entry first.level ≡ true
+      → Opens level told (asked (Takes Update Shared) Done ∷ meta_look first ∷ asked (Releases Update) Done
+      ∷ asked (Takes Update Alone) Done ∷ meta_look told ∷ [])
+
+-- what a word gives a new node of an index: the level
+abbrev pub newcomer : Params → List Bool → ℕ → Newcomer
+newcomer params bits word = record {
+  ops = params.ops;
+  m = params.m;
+  bits = bits;
+  level = level_of word params.m;
+  ef = params.ef;
+  except = None;
+}
+
+-- A whole insert of a row with this id and value, by a random word: the gate, the course, and the gate's release.
+pub record WholeInsert (params : Params) (id : HeapId) (bits : List Bool) (word : ℕ) (outcome : Outcome) (deeds : List Deed)
+    : Type 0 where
+  pub told : MetaTold
+  pub front : List Deed
+  pub opens : Opens (level_of word params.m) told front
+  pub under : List Deed
+  pub course : InsertCourse (newcomer params bits word) id told.hint told.blocks outcome under
+  pub deeds_are : deeds ≡ front ++ under ++ asked (Releases Update) Done ∷ []
+
+-- What an insert puts: one new node, with the id and the value, of the level of the word, and with just the lists that looks among its
+-- deeds gave. Nothing else that it does gives the index a row.
+pub record PutsWhatItFound (params : Params) (id : HeapId) (bits : List Bool) (word : ℕ) (place : Place) (deeds : List Deed)
+    : Type 0 where
+  pub before : List Deed
+  pub reads : List (Look × Answer)
+  pub later : List Deed
+  pub deeds_are : deeds ≡ before ++ (looks_of reads ++ later)
+  pub top : Option ℕ
+  pub lists : Lists
+  pub found : InsertLists (newcomer params bits word) reads top lists
+  pub one_row : rows_made params.m deeds ≡ put_event (node_of (newcomer params bits word) id lists) place ∷ []

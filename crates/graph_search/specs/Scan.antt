@@ -1,6 +1,6 @@
 -- A scan in batches: the HNSW paper's Algorithm 5, and after pgvector's iterative scans its going on for more. How a
 -- batch goes on, reads anew what it met before, and ends, is this project's own rule.
-use Rattle.std.specs.Prelude.{◌≡◌, ℕ, if◌then◌else◌, Bool, true, false, List, [], ◌∷◌, ◌++◌, map, flat_map, take, Option, Some, None}
+use Rattle.std.specs.Prelude.{◌≡◌, ℕ, ⊤, if◌then◌else◌, Bool, true, false, List, [], ◌∷◌, ◌++◌, map, flat_map, take, Option, Some, None}
 use Rattle.std.specs.Ordering.{is_lt}
 use Rattle.vec_names.specs.declared.tid.Tid.{Tid}
 use Rattle.vec_names.specs.declared.heap_id.HeapId.{HeapId}
@@ -94,7 +94,9 @@ TakesIn ops query earlier [] reads given = (reads ≡ []) × (given ≡ [])
 TakesIn ops query earlier (e ∷ es) reads given =
     TakesOne (is_known_at earlier e.at) ops query e (λ rest others. TakesIn ops query earlier es rest others) reads given
 
+-- how a scan goes on: not at all; with each row that is found; with none that is nearer than the last one given
 pub data Mode : Type 0 where
+  Off : Mode
   Relaxed : Mode
   Strict : Mode
 
@@ -107,15 +109,23 @@ abbrev pub without_nearer : Option Dist → List Given → List Given
 without_nearer last [] = []
 without_nearer last (g ∷ given) = if is_less g.dist last then without_nearer last given else g ∷ without_nearer (Some g.dist) given
 
+-- the mode has next batches
+abbrev pub GoesOn : Mode → Type 0
+GoesOn Off = ⊥
+GoesOn Relaxed = ⊤
+GoesOn Strict = ⊤
+
 abbrev pub let_through : Mode → Option Dist → List Given → List Given
+let_through Off last given = []
 let_through Relaxed last given = given
 let_through Strict last given = without_nearer last given
 
 -- A next batch: the search of the lowest layer goes on, without the elements that were taken before, and makes no
 -- expansion once `most` are known. The first ef found are taken. Their looks come after those of the search, in the
--- order in which they were found.
+-- order in which they were found. In mode Off there is none.
 pub record NextBatch (ef most : ℕ) (mode : Mode) (old : Standing) (reads : List (Look × Answer)) (given : List Given) (end : Bool)
     (now : Standing) : Type 0 where
+  pub goes_on : GoesOn mode
   pub more : List Turn
   pub bounds : Bounds
   pub bounds_are : bounds ≡ record { ef = ef; taken = old.taken; most = Some most }

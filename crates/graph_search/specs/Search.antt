@@ -169,3 +169,13 @@ pub record LayerSearch (s : Start) (ef : ℕ) (reads : List (Look × Answer)) (r
   pub halted : is_halted s (only_ef ef) turns ≡ true
   pub reads_are : reads ≡ course_reads s.layer turns
   pub result_is : result ≡ take ef (found_in s (only_ef ef) turns)
+
+-- the search began from the element, or a look of it told the element
+pub data IsMet (s : Start) (reads : List (Look × Answer)) (e : Found) : Type 0 where
+  begun : (i : ℕ) → slice_get s.from i ≡ Some e → IsMet s reads e
+  read : (i : ℕ) (told : Answer) → slice_get reads i ≡ Some (AtNode e.at s.layer None, told) → element_of s.ops s.query e.at told ≡ e ∷ []
+      → IsMet s reads e
+
+-- each element's distance is that of its value to the query
+abbrev pub AreExact : Ops → List Bool → List Found → Type 0
+AreExact ops query es = (i : ℕ) (e : Found) → slice_get es i ≡ Some e → e.dist ≡ distance_of ops query e.bits

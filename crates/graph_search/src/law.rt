@@ -1,15 +1,31 @@
 //! What the definition of a search means: laws, and no work.
 
-ghost use Rattle.std.specs.Prelude.{◌≡◌, ◌<◌, ◌≤◌, ℕ, true, List, [], ◌∷◌, length, slice_get, Some};
+ghost use Rattle.std.specs.Prelude.{◌≡◌, ◌↔◌, ◌<◌, ◌≤◌, ℕ, Bool, true, List, [], ◌∷◌, ◌++◌, length, slice_get, Option, Some, None};
 ghost use Rattle.neighbour_pick.specs.declared.found.Found.{Found as Elements};
-ghost use Rattle.graph_search.specs.Reads.{Look, Answer};
+ghost use Rattle.vec_names.specs.declared.tid.Tid.{Tid};
+ghost use Rattle.vec_names.specs.declared.params.Ops.{Ops};
+ghost use Rattle.graph_search.specs.Reads.{Look, Answer, AreReadAt};
+ghost use Rattle.graph_search.specs.Scan.{FirstBatch};
+ghost use Rattle.vec_names.specs.declared.params.Params.{Params as Parameters};
+ghost use Rattle.vec_names.specs.declared.heap_id.HeapId.{HeapId};
+ghost use Rattle.vec_history.specs.declared.event.Event.TheVariants.{Join};
+ghost use Rattle.vec_graph.specs.declared.place.Place.{Place as Places};
+ghost use Rattle.vec_history.specs.declared.event.Act.{Act as Acts};
+ghost use Rattle.vec_graph.specs.declared.graph.Graph.{Graph as Graphs};
+ghost use Rattle.vec_graph.specs.Places.{place_on};
+ghost use Rattle.vec_graph.specs.Rules.{IsPlaced};
+ghost use Rattle.vec_graph.specs.Asking.{IsFresh, TakesAnId};
+ghost use Rattle.graph_search.specs.Deeds.{NewNode, Joins, PutsOn, PutsNew, Links, Done, Placed, NoRoom, Stale};
+ghost use Rattle.graph_search.specs.Deeds.{Deed, looks_of, events_of, rows_made, reply_of, AreDoneAt, DidBetween};
+ghost use Rattle.graph_search.specs.Insert.{Newcomer, InsertLists, may_join, Outcome, Joined, Put, WholeInsert, PutsWhatItFound};
 ghost use Rattle.std.specs.declared.cmp.Ordering.TheVariants.{Less};
 ghost use Rattle.vec_names.specs.Order.{tid_cmp};
-ghost use Rattle.graph_search.specs.Search.{Start, LayerSearch, is_live, is_before, course_reads};
-ghost use Rattle.graph_search.specs.Examples.{Stand, zeros, last_two, last_three, element_at, from_first, three_turns};
+ghost use Rattle.graph_search.specs.Search.{Start, LayerSearch, IsMet, AreExact, is_live, is_before, course_reads};
+ghost use Rattle.graph_search.specs.Examples.{Stand, zeros, last_two, last_three, last_one, element_at, from_first, three_turns, one_turn, from_nearest, turns_through, no_entry_reads, gone_entry_reads, nothing_found, no_lists, first_insert, first_events};
 
 /// A law, and no work. The search of one layer gives at most ef elements, each of which was live as it was read, and none
-/// of which comes after one that is farther: they rise by distance, and then by place.
+/// of which comes after one that is farther: they rise by distance, and then by place. Each
+/// is one that the search began from, or a look of it told it; and where the distances that it began from are exact, all are.
 pub fn law_search()
     ensures few { (s : Start) (ef : ℕ) (reads : List (Look × Answer)) (result : List Elements) → LayerSearch s ef reads result
         → length result ≤ ef }
@@ -17,6 +33,10 @@ pub fn law_search()
         → (i : ℕ) (e : Elements) → slice_get result i ≡ Some e → is_live e ≡ true }
     ensures rising { (s : Start) (ef : ℕ) (reads : List (Look × Answer)) (result : List Elements) → LayerSearch s ef reads result
         → (i j : ℕ) (e f : Elements) → i < j → slice_get result i ≡ Some e → slice_get result j ≡ Some f → is_before f e ≡ true → ⊥ }
+    ensures met { (s : Start) (ef : ℕ) (reads : List (Look × Answer)) (result : List Elements) → LayerSearch s ef reads result
+        → (i : ℕ) (e : Elements) → slice_get result i ≡ Some e → IsMet s reads e }
+    ensures exact { (s : Start) (ef : ℕ) (reads : List (Look × Answer)) (result : List Elements) → AreExact s.ops s.query s.from
+        → LayerSearch s ef reads result → AreExact s.ops s.query result }
 {}
 
 /// A law, and no work. A worked example: of three nodes of the values 0000, 0011 and 0111, whose places rise, a search for
@@ -25,4 +45,81 @@ pub fn law_worked_search()
     ensures { (a b c : Stand) → tid_cmp a.at b.at ≡ Less → tid_cmp a.at c.at ≡ Less → tid_cmp b.at c.at ≡ Less
         → LayerSearch (from_first a) 4 (course_reads 0 (three_turns a b c))
         (element_at a zeros ∷ element_at b last_two ∷ element_at c last_three ∷ []) }
+{}
+
+/// A law, and no work. The same three nodes with ef 1: the first is expanded, is found, and is nearer than what it names, or
+/// as near and at a lower place. So the search ends with it. One that goes on, or keeps one more, is no search.
+pub fn law_worked_search_of_one()
+    ensures { (a b c : Stand) → tid_cmp a.at b.at ≡ Less → tid_cmp a.at c.at ≡ Less → tid_cmp b.at c.at ≡ Less
+        → LayerSearch (from_first a) 1 (course_reads 0 (one_turn a b c)) (element_at a zeros ∷ []) }
+{}
+
+/// A law, and no work. A node that lost its rows is walked through and not kept: 0001 names 1111, which has no row, and that
+/// names 0011. A search for 0001 with ef 4 expands all three, and finds the first and the last, at the distances 0 and 1. The
+/// one between is farther than all found when it is expanded, since fewer than ef are.
+pub fn law_worked_search_through()
+    ensures { (a b c : Stand) → tid_cmp a.at b.at ≡ Less → tid_cmp a.at c.at ≡ Less → tid_cmp b.at c.at ≡ Less
+        → LayerSearch (from_nearest a) 4 (course_reads 0 (turns_through a b c)) (element_at a last_one ∷ element_at c last_two ∷ []) }
+{}
+
+/// A law, and no work. An index without an entry point, and one whose entry point is gone by the time that it is looked at, are
+/// the same to a scan and to an insert: the first batch has no row and is the last, and a new node has no neighbour. No
+/// further look is made.
+pub fn law_no_entry()
+    ensures scan_of_none { (ops : Ops) (query : List Bool) (ef hint blocks : ℕ)
+        → FirstBatch ops query ef (no_entry_reads hint blocks) [] true (nothing_found ops query) }
+    ensures scan_of_gone { (ops : Ops) (query : List Bool) (ef : ℕ) (at : Tid) (level hint blocks : ℕ)
+        → FirstBatch ops query ef (gone_entry_reads at level hint blocks) [] true (nothing_found ops query) }
+    ensures lists_of_none { (n : Newcomer) (hint blocks : ℕ) → InsertLists n (no_entry_reads hint blocks) None (no_lists n) }
+    ensures lists_of_gone { (n : Newcomer) (at : Tid) (level hint blocks : ℕ)
+        → InsertLists n (gone_entry_reads at level hint blocks) None (no_lists n) }
+{}
+
+/// A law, and no work. A whole insert gives the index one row. Where an element took the id, that is its one event of a row,
+/// and the element had the row's value, and from 1 to 9 ids as it was read. Else it is one Put, of what the insert found.
+pub fn law_insert()
+    ensures joins { (params : Parameters) (id : HeapId) (bits : List Bool) (word : ℕ) (e : Elements) (deeds : List Deed)
+        → WholeInsert params id bits word (Joined e) deeds → rows_made params.m deeds ≡ Join e.at e.version id ∷ [] }
+    ensures equal { (params : Parameters) (id : HeapId) (bits : List Bool) (word : ℕ) (e : Elements) (deeds : List Deed)
+        → WholeInsert params id bits word (Joined e) deeds → may_join bits e ≡ true }
+    ensures puts { (params : Parameters) (id : HeapId) (bits : List Bool) (word : ℕ) (place : Places) (deeds : List Deed)
+        → WholeInsert params id bits word (Put place) deeds → PutsWhatItFound params id bits word place deeds }
+{}
+
+/// A law, and no work. Deeds that are looks alone are reads of the history; and what a desk did between two positions, and
+/// then between the second and a third, it did between the first and the third.
+pub fn law_deeds()
+    ensures looks { (base : Graphs) (acts : List Acts) (desk : ℕ) (positions : List ℕ) (reads : List (Look × Answer))
+        → AreReadAt base acts positions reads ↔ AreDoneAt base acts desk positions (looks_of reads) }
+    ensures together { (base : Graphs) (acts : List Acts) (desk low mid high : ℕ) (first second : List Deed)
+        → DidBetween base acts desk low mid first → DidBetween base acts desk mid high second
+        → DidBetween base acts desk low high (first ++ second) }
+{}
+
+/// A law, and no work. What the word to a change says of the graph that it is asked of: where it is done, just what the
+/// rules ask of that event beside the desk's gates and knowledge; where it is Stale, that the node is not as it was read;
+/// where there is no room, that the block has no place.
+pub fn law_words()
+    ensures joins { (g : Graphs) (at : Tid) (version : ℕ) (id : HeapId) → reply_of g (Joins at version id) ≡ Done → TakesAnId g at version }
+    ensures stale_join { (g : Graphs) (at : Tid) (version : ℕ) (id : HeapId) → reply_of g (Joins at version id) ≡ Stale
+        → IsFresh g at version → ⊥ }
+    ensures links { (g : Graphs) (at : Tid) (version : ℕ) (list_at : Tid) (level layer slot : ℕ) (held : Option Tid) (to : Tid)
+        → reply_of g (Links at list_at level version layer slot held to) ≡ Done → IsFresh g at version }
+    ensures stale_link { (g : Graphs) (at : Tid) (version : ℕ) (list_at : Tid) (level layer slot : ℕ) (held : Option Tid) (to : Tid)
+        → reply_of g (Links at list_at level version layer slot held to) ≡ Stale → IsFresh g at version → ⊥ }
+    ensures placed { (g : Graphs) (node : NewNode) (place : Places) (block : ℕ) → reply_of g (PutsOn block node) ≡ Placed place
+        → IsPlaced g place.at node.level place }
+    ensures placed_new { (g : Graphs) (node : NewNode) (place : Places) → reply_of g (PutsNew node) ≡ Placed place
+        → IsPlaced g place.at node.level place }
+    ensures no_room { (g : Graphs) (node : NewNode) (block : ℕ) → reply_of g (PutsOn block node) ≡ NoRoom
+        → place_on g block node.level ≡ None }
+{}
+
+/// A law, and no work. A worked example: the first row of an index of one block, whose new node stands on block 1, where the
+/// hint is. The gate is taken twice, since the node becomes the entry point; it is put with empty lists; no hint is moved.
+pub fn law_worked_insert()
+    ensures deeds { (params : Parameters) (id : HeapId) (bits : List Bool) (word : ℕ) (place : Places) → place.at.block ≡ 1
+        → WholeInsert params id bits word (Put place) (first_insert params id bits word place) }
+    ensures events { (params : Parameters) (id : HeapId) (bits : List Bool) (word : ℕ) (place : Places)
+        → events_of params.m (first_insert params id bits word place) ≡ first_events params id bits word place }
 {}

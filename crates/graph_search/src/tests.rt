@@ -3,6 +3,13 @@ use super::*;
 // The laws need nothing.
 #[test]
 fn laws_of_searches() {
+    law_deeds();
+    law_insert();
+    law_no_entry();
     law_search();
+    law_words();
+    law_worked_insert();
     law_worked_search();
+    law_worked_search_of_one();
+    law_worked_search_through();
 }
