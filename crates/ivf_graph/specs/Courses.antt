@@ -67,7 +67,8 @@ abbrev pub IsPlacing : ℕ → ℕ → HeapId → List Bool → Event → Type 0
 IsPlacing list block id bits e = (e ≡ event.IvfAdd block id bits) ⊎ ((last : ℕ) × (e ≡ event.IvfGrow list last block id bits))
 
 -- an insert that read the pages of the centres in these states, and then had these turns: the row came on a block of the nearest list
-pub record IsInsertFrom (states : List IvfGraph) (lists : ℕ) (id : HeapId) (bits : List Bool) (turns : List Turn) (list block : ℕ) : Type 0 where
+pub record IsInsertFrom (states : List IvfGraph) (lists : ℕ) (id : HeapId) (bits : List Bool) (turns : List Turn)
+    (list block : ℕ) : Type 0 where
   pub enough : length states ≡ centre_pages (length bits) lists
   pub nearest : Centre
   pub is_nearest : slice_get (ranked (is_centre_nearer bits) (centres_read (length bits) 1 states)) 0 ≡ Some nearest
@@ -79,7 +80,8 @@ pub record IsInsertFrom (states : List IvfGraph) (lists : ℕ) (id : HeapId) (bi
   pub whole : turns ≡ tries ++ last
 
 -- the same of a history, where the reads of the centres and the turns had these positions
-pub record IsInsertedAt (base : IvfGraph) (acts : List Act) (desk : ℕ) (reads positions : List ℕ) (id : HeapId) (bits : List Bool) (list block : ℕ) : Type 0 where
+pub record IsInsertedAt (base : IvfGraph) (acts : List Act) (desk : ℕ) (reads positions : List ℕ) (id : HeapId) (bits : List Bool)
+    (list block : ℕ) : Type 0 where
   pub rising : IsRising 0 (reads ++ positions) (length acts)
   pub turns : List Turn
   pub made : AreMadeAt base acts desk positions turns
@@ -99,7 +101,8 @@ pub data Clears (dead : HeapId → Bool) (list : ℕ) : Option ℕ → Option �
   ends : Clears dead list None None []
   aims : (g : IvfGraph) (first : ℕ) → Clears dead list None (Some first) ((g, Some (event.IvfHint list first)) ∷ [])
   keeps : (g : IvfGraph) (block : ℕ) (rows : List Row) (first : Option ℕ) (turns : List Turn) → rows_on g block ≡ Some rows
-      → dead_from dead 1 rows ≡ [] → Clears dead list (next_on g block) first turns → Clears dead list (Some block) first ((g, None) ∷ turns)
+      → dead_from dead 1 rows ≡ [] → Clears dead list (next_on g block) first turns
+      → Clears dead list (Some block) first ((g, None) ∷ turns)
   cuts : (g h : IvfGraph) (block : ℕ) (rows : List Row) (first : Option ℕ) (turns : List Turn) → rows_on g block ≡ Some rows
       → dead_from dead 1 rows ≢ [] → Clears dead list (next_on g block) (option_or first (Some block)) turns
       → Clears dead list (Some block) first ((g, None) ∷ (h, Some (event.IvfDrop block (dead_from dead 1 rows))) ∷ turns)
@@ -107,12 +110,14 @@ pub data Clears (dead : HeapId → Bool) (list : ℕ) : Option ℕ → Option �
 -- list by list
 pub data ClearsAll (dead : HeapId → Bool) : List Centre → List Turn → Type 0 where
   none_left : ClearsAll dead [] []
-  clears : (c : Centre) (centres : List Centre) (turns later : List Turn) → Clears dead c.list c.first None turns → ClearsAll dead centres later
+  clears : (c : Centre) (centres : List Centre) (turns later : List Turn) → Clears dead c.list c.first None turns
+      → ClearsAll dead centres later
       → ClearsAll dead (c ∷ centres) (turns ++ later)
 
 -- A vacuum of an index whose centres have so many places: it takes the gate of vacuums alone by the act of number `began`,
 -- reads the pages of the centres, clears each list, and gives the gate back by the act of number `ended`.
-pub record IsVacuumedAt (base : IvfGraph) (acts : List Act) (desk places : ℕ) (dead : HeapId → Bool) (began ended : ℕ) (reads positions : List ℕ) : Type 0 where
+pub record IsVacuumedAt (base : IvfGraph) (acts : List Act) (desk places : ℕ) (dead : HeapId → Bool) (began ended : ℕ)
+    (reads positions : List ℕ) : Type 0 where
   pub taken : IsActAt acts began desk (event.Gate Vacuum Alone)
   pub rising : IsRising (began + 1) (reads ++ positions) ended
   pub enough : length reads ≡ centre_pages places (length base.lists)

@@ -55,6 +55,7 @@ IsRising low [] high = low ≤ high
 IsRising low (n ∷ positions) high = (low ≤ n) × IsRising n positions high
 
 -- the answer of a search whose reads had these positions, which the history reaches, one after the other
-pub record IsAnswerAt (base : IvfGraph) (acts : List Act) (positions : List ℕ) (query : List Bool) (probes : ℕ) (answer : List Hit) : Type 0 where
+pub record IsAnswerAt (base : IvfGraph) (acts : List Act) (positions : List ℕ) (query : List Bool) (probes : ℕ)
+    (answer : List Hit) : Type 0 where
   pub rising : IsRising 0 positions (length acts)
   pub answers : IsAnswerFrom (map (state_after base acts) positions) (length base.lists) query probes answer
