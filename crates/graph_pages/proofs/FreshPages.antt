@@ -36,7 +36,7 @@ get_copy v zero i x is = absurd cc
 get_copy v (suc n) zero x is = sym (some_is v x is)
 get_copy v (suc n) (suc i) x is = get_copy v n i x is
 
-get_behind : {X : Type 0} (xs : List X) (v : X) (n i : ℕ) (x : X) → length xs ≤ i → slice_get (xs ++ replicate n v) i ≡ Some x → x ≡ v
+pub get_behind : {X : Type 0} (xs : List X) (v : X) (n i : ℕ) (x : X) → length xs ≤ i → slice_get (xs ++ replicate n v) i ≡ Some x → x ≡ v
 get_behind [] v n i x h is = get_copy v n i x is
 get_behind (y ∷ ys) v n zero x h is = absurd (omega arith)
 get_behind (y ∷ ys) v n (suc i) x h is = get_behind ys v n i x (omega arith) is

@@ -35,3 +35,4 @@ pub mod PutNewEffect
 pub mod PutNewFits
 pub mod FormatKept
 pub mod RedoEffect
+pub mod PutFreshFits

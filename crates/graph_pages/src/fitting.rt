@@ -12,6 +12,8 @@ ghost use Rattle.vec_graph.specs.declared.node.Node.{Node};
 ghost use Rattle.vec_graph.specs.declared.graph.Graph.{Graph};
 ghost use Rattle.vec_graph.specs.Graph.{node_at};
 ghost use Rattle.vec_graph.specs.Rules.{IsThere};
+ghost use Rattle.vec_graph.specs.declared.place.Place.{Place as NewPlace};
+ghost use Rattle.vec_graph.specs.Places.{new_place};
 ghost use Rattle.index_sizes.specs.Sizes.{slots_of_level};
 ghost use Rattle.graph_pages.specs.Standing.{Stands};
 ghost use Rattle.graph_pages.specs.Fitting.{FitsEach, AreNextPlaces};
@@ -37,6 +39,15 @@ pub fn law_put_new_fits()
         → length bits ≡ g.params.bits → length lists ≡ slots_of_level g.params.m level → length lists ≤ MOST_SLOTS
         → AreNextPlaces (extended (Put at list_at version level id bits lists) pages) at list_at (length bits) (length lists)
         → FitsEach pages g.params (Put at list_at version level id bits lists) }
+{}
+
+/// A law, and no work. A new node fits at the place on new blocks that the graph gives a node of its level, where its value is of the
+/// index's length and it has the slots of its level, no more than a tuple holds.
+pub fn law_put_fresh_fits()
+    ensures { (pages : List Content) (g : Graph) (place : NewPlace) (level : ℕ) (id : HeapId) (bits : List Bool)
+        (lists : List (Option Place)) → All IsPage pages → Stands pages g → new_place g level ≡ Some place
+        → length bits ≡ g.params.bits → length lists ≡ slots_of_level g.params.m level → length lists ≤ MOST_SLOTS
+        → FitsEach pages g.params (Put place.at place.list_at place.version level id bits lists) }
 {}
 
 /// A law, and no work. A node's deletion fits the pages of its element and of its neighbour tuple, where the node at the place is of

@@ -24,7 +24,7 @@ pub use effects::{
 };
 pub use fitting::{
     law_drop_fits, law_entry_fits, law_hint_fits, law_join_fits, law_link_fits, law_mark_fits,
-    law_put_again_fits, law_put_new_fits, law_relist_fits,
+    law_put_again_fits, law_put_fresh_fits, law_put_new_fits, law_relist_fits,
 };
 pub use graph_fault::GraphFault;
 pub use law::law_standing;
