@@ -16,3 +16,5 @@ pub mod Asked
 pub mod AskedExample
 pub mod OncePlaced
 pub mod CourseExamples
+pub mod Growing
+pub mod Places

@@ -32,7 +32,7 @@ module _ (block : ℕ) (change : List Row → List Row) where
       by_test true = refl
       by_test false = refl
 
-  same_in_chain : (chain : List Part) → map (λ p. p.0) (map (changed_part block change) chain) ≡ map (λ p. p.0) chain
+  pub same_in_chain : (chain : List Part) → map (λ p. p.0) (map (changed_part block change) chain) ≡ map (λ p. p.0) chain
   same_in_chain [] = refl
   same_in_chain (p ∷ chain) = ap (λ n. n ∷ map (λ q. q.0) (map (changed_part block change) chain)) (same_number p) ∙ ap (λ ns. p.0 ∷ ns) (same_in_chain chain)
 
@@ -69,7 +69,7 @@ grown_parts (m ∷ lists) (suc n) l block row is =
     (IsPermutation-sym (m.chain ++ p ∷ rest) (p ∷ (m.chain ++ rest)) (IsPermutation-middle m.chain p rest))
     (IsPermutation-append_right m.chain (p ∷ rest) grows (grown_parts lists n l block row is)))
 
-equal_either_way : (x y : ℕ) → eqb x y ≡ eqb y x
+pub equal_either_way : (x y : ℕ) → eqb x y ≡ eqb y x
 equal_either_way x y = grind (arith, nat_tests)
 
 not_equal : (n k : ℕ) → k < n → eqb n k ≡ false

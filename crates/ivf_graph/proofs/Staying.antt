@@ -59,7 +59,7 @@ longer_of block (p ∷ chain) more a =
     ]
 
 -- a list that is there is there when one of them has changed, as it was or changed
-changed_at : (lists : List IvfList) (n : ℕ) (change : IvfList → IvfList) (k : ℕ) (l : IvfList) → slice_get lists k ≡ Some l
+pub changed_at : (lists : List IvfList) (n : ℕ) (change : IvfList → IvfList) (k : ℕ) (l : IvfList) → slice_get lists k ≡ Some l
     → (m : IvfList) × (slice_get (changed lists n change) k ≡ Some m) × ((m ≡ l) ⊎ (m ≡ change l))
 changed_at [] n change k l is = absurd (none-some l is)
 changed_at (x ∷ lists) zero change zero l is = (change x, refl, inr (ap change (same_Some x l is)))
@@ -122,14 +122,14 @@ module _ (g : IvfGraph) (list block : ℕ) (of : IsAimAllowed g list block) wher
 abbrev pub on_block : ℕ → Part → Bool
 on_block block p = p.0 == block
 
-parts_changed : (on : ℕ) (change : List Row → List Row) (lists : List IvfList)
+pub parts_changed : (on : ℕ) (change : List Row → List Row) (lists : List IvfList)
     → flat_map (λ l. l.chain) (map (with_rows on change) lists) ≡ map (changed_part on change) (flat_map (λ l. l.chain) lists)
 parts_changed on change [] = refl
 parts_changed on change (l ∷ lists) =
     ap (λ ps. map (changed_part on change) l.chain ++ ps) (parts_changed on change lists)
     ∙ sym (map-append (changed_part on change) l.chain (flat_map (λ x. x.chain) lists))
 
-find_changed : (block on : ℕ) (change : List Row → List Row) (ps : List Part)
+pub find_changed : (block on : ℕ) (change : List Row → List Row) (ps : List Part)
     → find (on_block block) (map (changed_part on change) ps) ≡ option_map (changed_part on change) (find (on_block block) ps)
 find_changed block on change [] = refl
 find_changed block on change (p ∷ ps) =
@@ -146,7 +146,7 @@ or_none : {X : Type 0} (o q : Option X) → option_or (option_or o None) q ≡ o
 or_none None q = refl
 or_none (Some x) q = refl
 
-find_grown : (block new : ℕ) (row : Row) (n : ℕ) (lists : List IvfList) → (new == block) ≡ false
+pub find_grown : (block new : ℕ) (row : Row) (n : ℕ) (lists : List IvfList) → (new == block) ≡ false
     → find (on_block block) (flat_map (λ l. l.chain) (changed lists n (grown new row))) ≡ find (on_block block) (flat_map (λ l. l.chain) lists)
 find_grown block new row n [] not_it = refl
 find_grown block new row zero (l ∷ lists) not_it =
@@ -215,7 +215,7 @@ module _ (g : IvfGraph) (own : AreBlocksOwn g) (block : ℕ) (rows : List Row) (
   row_more : (row : Row) (rs : List Row) → length rs ≤ length (with_row row rs)
   row_more row rs = omega (arith, length-append rs (row ∷ []))
 
-  not_new : (new : ℕ) → new ≡ g.blocks → (new == block) ≡ false
+  pub not_new : (new : ℕ) → new ≡ g.blocks → (new == block) ≡ false
   not_new new next =
       let below : block < g.blocks = found_below g.blocks block (parts g) rows own.within stands in
       grind (arith, nat_tests)

@@ -6,5 +6,6 @@ pub mod Asking
 pub mod Answer
 pub mod Looks
 pub mod Reads
+pub mod Lasting
 pub mod Courses
 pub mod Examples

@@ -1,6 +1,6 @@
 //! What the definitions of the index of lists and of its histories mean: laws. A function here does no work.
 
-ghost use Rattle.std.specs.Prelude.{◌≤◌, ◌≢◌, slice_get, take, Some, None, replicate, ◌≡◌, ◌⊎◌, ℕ, ◌∷◌, [], Bool, true, false, List, map, min, length, IsSorted, IsPermutation};
+ghost use Rattle.std.specs.Prelude.{◌≤◌, ◌≢◌, ◌-◌, slice_get, take, drop, Some, None, replicate, ◌≡◌, ◌⊎◌, ℕ, ◌∷◌, [], Bool, true, false, List, map, min, length, IsSorted, IsPermutation};
 ghost use Rattle.vec_history.specs.declared.event.Event.{Event as Events};
 ghost use Rattle.vec_history.specs.declared.event.Event.TheVariants.{IvfGrow};
 ghost use Rattle.std.specs.List.{enumerate_from};
@@ -17,6 +17,8 @@ ghost use Rattle.vec_history.specs.declared.event.Act.{Act as Acts};
 ghost use Rattle.vec_names.specs.declared.heap_id.HeapId.{HeapId as HeapIds};
 ghost use Rattle.ivf_graph.specs.declared.graph.IvfGraph.{IvfGraph as Graphs};
 ghost use Rattle.ivf_graph.specs.Courses.{Turn, events_of, aims_at, IsPlacing, IsInsertFrom, IsInsertedAt, IsVacuumedAt};
+ghost use Rattle.ivf_graph.specs.declared.list.IvfList.{IvfList as IvfLists};
+ghost use Rattle.ivf_graph.specs.Lasting.{HasGrown, StandsAt, place_later};
 ghost use Rattle.ivf_graph.specs.Asking.{IsAsked, IsGranted, IsOfAll};
 ghost use Rattle.ivf_graph.specs.Rules.{IsEventAllowed};
 ghost use Rattle.ivf_graph.specs.Legal.{IsLegal};
@@ -38,6 +40,22 @@ pub fn law_blocks(base: &IvfGraph, acts: &[Act])
     requires legal { IsLegal base.now acts.now }
     requires own { AreBlocksOwn base.now }
     ensures { AreBlocksOwn (after base.now acts.now) }
+{}
+
+/// A list keeps its centre, and its blocks in their order: at a later position it may have more behind them.
+pub fn law_chains(base: &IvfGraph, acts: &[Act])
+    ensures { (n m list : ℕ) (was : IvfLists) → n ≤ m → slice_get (state_after base.now acts.now n).lists list ≡ Some was
+        → HasGrown was (state_after base.now acts.now m) list }
+{}
+
+/// A row that is not cut between two positions stands on its block at the later one, at the place that the acts between
+/// leave it: no place is lost but by a cut, and rows move up by cuts alone.
+pub fn law_stands(base: &IvfGraph, acts: &[Act])
+    requires legal { IsLegal base.now acts.now }
+    requires own { AreBlocksOwn base.now }
+    ensures { (n m block place later : ℕ) (row : Row) → n ≤ m → StandsAt (state_after base.now acts.now n) block place row
+        → place_later (take (m - n) (drop n acts.now)) block place ≡ Some later
+        → StandsAt (state_after base.now acts.now m) block later row }
 {}
 
 /// The answer rises by distance and then by the rows' names; it has each row of the
@@ -149,6 +167,9 @@ pub fn law_examples()
     // The row 1/5 0110 is nearest to list 1, and its aim has room. A vacuum of 1/3 reads all blocks and cuts one.
     ensures insert { IsInsertedAt worked_index worked_acts 1 (0 ∷ []) (0 ∷ []) row_5 (four false true true false) 1 3 }
     ensures vacuum { IsVacuumedAt worked_index vacuum_acts 1 4 is_row_3 0 3 (1 ∷ []) (1 ∷ 1 ∷ 1 ∷ 2 ∷ 3 ∷ []) }
+
+    // It takes the row 1/3 away, and 1/4 behind it moves up.
+    ensures moves_up { (place_later vacuum_acts 3 0 ≡ None) × (place_later vacuum_acts 3 1 ≡ Some 0) × (place_later vacuum_acts 2 0 ≡ Some 0) }
 
     // A row of 64,000 places takes 8,020 of a page's 8,160 bytes, so one page has one of them.
     ensures long_row { row_need MOST_BITS ≡ 8020 }

@@ -237,6 +237,8 @@ fn laws_before_any_act(rt: HostRuntime) {
     law_alone(&base, &acts);
     law_blocks(&base, &acts);
     law_rows(&base);
+    law_chains(&base, &acts);
+    law_stands(&base, &acts);
     law_later(&base, &acts);
     law_asked(&base, &acts);
     law_answer(&base);

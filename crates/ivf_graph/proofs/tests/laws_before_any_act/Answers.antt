@@ -9,3 +9,6 @@ law_reads-requires c = (none_own (record { lists = c.new.result; blocks = 2 }) c
 
 pub law_still-requires-clause-own : goal.law_still-requires-clause-own
 law_still-requires-clause-own c = none_own _ c.new.ensures
+
+pub law_stands-requires-clause-own : goal.law_stands-requires-clause-own
+law_stands-requires-clause-own c = none_own _ c.new.ensures
