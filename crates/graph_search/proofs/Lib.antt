@@ -6,3 +6,5 @@ pub mod Doing
 pub mod Words
 pub mod WhereFrom
 pub mod FirstInsert
+pub mod RowsRead
+pub mod Presence

@@ -1,12 +1,17 @@
 -- A scan in batches: the HNSW paper's Algorithm 5, and after pgvector's iterative scans its going on for more. How a
 -- batch goes on, reads anew what it met before, and ends, is this project's own rule.
-use Rattle.std.specs.Prelude.{◌≡◌, ℕ, ⊤, if◌then◌else◌, Bool, true, false, List, [], ◌∷◌, ◌++◌, map, flat_map, take, Option, Some, None}
+use Rattle.std.specs.Prelude.{◌≡◌, ◌≤◌, ℕ, ⊤, if◌then◌else◌, Bool, true, false, List, [], ◌∷◌, ◌++◌, map, flat_map, take, length, slice_get, Option, Some, None}
 use Rattle.std.specs.Ordering.{is_lt}
 use Rattle.vec_names.specs.declared.tid.Tid.{Tid}
 use Rattle.vec_names.specs.declared.heap_id.HeapId.{HeapId}
 use Rattle.vec_names.specs.declared.params.Ops.{Ops}
 use Rattle.bit_dist.specs.declared.dist.Dist.{Dist}
-use Rattle.bit_dist.specs.Distances.{dist_cmp}
+use Rattle.bit_dist.specs.Distances.{dist_cmp, distance_of}
+use Rattle.vec_history.specs.declared.event.Act.{Act}
+use Rattle.vec_graph.specs.declared.node.Node.{Node}
+use Rattle.vec_graph.specs.declared.graph.Graph.{Graph}
+use Rattle.vec_graph.specs.Graph.{node_at}
+use Rattle.vec_graph.specs.Effect.{state_after}
 use Rattle.neighbour_pick.specs.declared.found.Found.{Found}
 use Rattle.graph_search.specs.Reads.{Look, AtNode, Answer}
 use Rattle.graph_search.specs.Search.{Turn, Start, Bounds, is_among, place_of, element_of, known, found_in, is_halted, IsCourse, course_reads, only_ef}
@@ -145,3 +150,35 @@ pub record NextBatch (ef most : ℕ) (mode : Mode) (old : Standing) (reads : Lis
     taken = old.taken ++ map place_of batch;
     last = last_dist old.last given;
   }
+
+-- ---- where rows come from
+
+-- one of these reads told the element
+pub record IsTold (ops : Ops) (query : List Bool) (reads : List (Look × Answer)) (e : Found) : Type 0 where
+  pub number : ℕ
+  pub at : Tid
+  pub layer : ℕ
+  pub version : Option ℕ
+  pub told : Answer
+  pub among : slice_get reads number ≡ Some (AtNode at layer version, told)
+  pub is : element_of ops query at told ≡ e ∷ []
+
+-- the row is one of an element that one of these reads told
+pub record IsRowRead (ops : Ops) (query : List Bool) (reads : List (Look × Answer)) (g : Given) : Type 0 where
+  pub element : Found
+  pub told : IsTold ops query reads element
+  pub number : ℕ
+  pub of_element : slice_get (rows_of element) number ≡ Some g
+
+-- At a position of the history a node stands at the element's place that is not deleted, with its version, rows and value; and its
+-- distance is that of the value.
+pub record IsPresent (base : Graph) (acts : List Act) (ops : Ops) (query : List Bool) (e : Found) : Type 0 where
+  pub position : ℕ
+  pub reached : position ≤ length acts
+  pub node : Node
+  pub stands : node_at (state_after base acts position) e.at ≡ Some node
+  pub not_deleted : node.deleted ≡ false
+  pub of_version : node.version ≡ e.version
+  pub of_ids : node.ids ≡ e.ids.items
+  pub of_bits : node.bits ≡ e.bits
+  pub exact : e.dist ≡ distance_of ops query node.bits

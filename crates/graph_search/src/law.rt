@@ -5,7 +5,7 @@ ghost use Rattle.neighbour_pick.specs.declared.found.Found.{Found as Elements};
 ghost use Rattle.vec_names.specs.declared.tid.Tid.{Tid};
 ghost use Rattle.vec_names.specs.declared.params.Ops.{Ops};
 ghost use Rattle.graph_search.specs.Reads.{Look, Answer, AreReadAt};
-ghost use Rattle.graph_search.specs.Scan.{FirstBatch};
+ghost use Rattle.graph_search.specs.Scan.{Given, Mode, Standing, FirstBatch, NextBatch, IsTold, IsRowRead, IsPresent};
 ghost use Rattle.vec_names.specs.declared.params.Params.{Params as Parameters};
 ghost use Rattle.vec_names.specs.declared.heap_id.HeapId.{HeapId};
 ghost use Rattle.vec_history.specs.declared.event.Event.TheVariants.{Join};
@@ -122,4 +122,19 @@ pub fn law_worked_insert()
         → WholeInsert params id bits word (Put place) (first_insert params id bits word place) }
     ensures events { (params : Parameters) (id : HeapId) (bits : List Bool) (word : ℕ) (place : Places)
         → events_of params.m (first_insert params id bits word place) ≡ first_events params id bits word place }
+{}
+
+/// A law, and no work. Each row of a batch was read in it: one of its looks told the row's element, with the row among those
+/// of the element. That holds of a next batch too, which looks anew at what it met before. And an element that a read of a
+/// history told was present when it was read: a node that was not deleted stood there, with this version, these rows and this
+/// value, from which its distance is.
+pub fn law_batches()
+    ensures first { (ops : Ops) (query : List Bool) (ef : ℕ) (reads : List (Look × Answer)) (given : List Given) (end : Bool) (now : Standing)
+        → FirstBatch ops query ef reads given end now → (i : ℕ) (g : Given) → slice_get given i ≡ Some g → IsRowRead ops query reads g }
+    ensures next { (ef most : ℕ) (mode : Mode) (old : Standing) (reads : List (Look × Answer)) (given : List Given) (end : Bool)
+        (now : Standing) → NextBatch ef most mode old reads given end now
+        → (i : ℕ) (g : Given) → slice_get given i ≡ Some g → IsRowRead old.start.ops old.start.query reads g }
+    ensures present { (base : Graphs) (acts : List Acts) (ops : Ops) (query : List Bool) (positions : List ℕ)
+        (reads : List (Look × Answer)) (e : Elements) → AreReadAt base acts positions reads → IsTold ops query reads e
+        → IsPresent base acts ops query e }
 {}

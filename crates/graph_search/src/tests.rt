@@ -3,6 +3,7 @@ use super::*;
 // The laws need nothing.
 #[test]
 fn laws_of_searches() {
+    law_batches();
     law_deeds();
     law_insert();
     law_no_entry();
