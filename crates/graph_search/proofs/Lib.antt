@@ -8,3 +8,4 @@ pub mod WhereFrom
 pub mod FirstInsert
 pub mod RowsRead
 pub mod Presence
+pub mod Holding

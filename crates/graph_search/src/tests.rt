@@ -5,6 +5,7 @@ use super::*;
 fn laws_of_searches() {
     law_batches();
     law_deeds();
+    law_going_on();
     law_insert();
     law_no_entry();
     law_search();
