@@ -1,11 +1,11 @@
 -- What a search that goes on holds tells whether it is over, and which turn is next.
-use Rattle.std.proofs.Common.{◌≡◌, ℕ, ◌||◌, ◌&&◌, not, cond, Bool, true, false, List, [], ◌∷◌, ◌++◌, filter, map, length, Option, Some, None, refl, sym, subst, ap, ap₂, ◌∙◌}
+use Rattle.std.proofs.Common.{◌≡◌, ℕ, ◌||◌, ◌&&◌, not, cond, Bool, false, List, [], ◌∷◌, ◌++◌, filter, map, length, Option, Some, None, refl, sym, subst, ap, ap₂, ◌∙◌}
 use Rattle.std.proofs.Math.Bool.{and-true}
 use Rattle.std.proofs.lemmas.List.{append-nil}
 use Rattle.vec_names.specs.declared.tid.Tid.{Tid}
 use Rattle.neighbour_pick.specs.declared.found.Found.{Found}
 use Rattle.graph_search.specs.Reads.{Look, Answer}
-use Rattle.graph_search.specs.Search.{Start, Turn, Bounds, IsCourse, course_reads, is_live, is_among, place_of, known, named, open_in, found_in, is_done, is_most, is_halted, in_order, IsTurn, only_ef, LayerSearch}
+use Rattle.graph_search.specs.Search.{Start, Turn, Bounds, IsCourse, course_reads, is_live, is_among, place_of, open_in, found_in, is_done, is_most, is_halted, in_order, LayerSearch}
 use Rattle.graph_search.specs.Scan.{Standing, Mode, Given, is_known_at, NextBatch, Held, HoldsAfter, is_over, begins_with, GoesOnTo}
 
 firsts : (earlier es : List Found) → map (λ (p : Found × Bool). p.0) (map (λ (e : Found). (e, is_known_at earlier e.at)) es) ≡ es

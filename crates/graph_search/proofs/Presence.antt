@@ -9,7 +9,7 @@ use Rattle.vec_graph.specs.declared.graph.Graph.{Graph}
 use Rattle.vec_graph.specs.Graph.{node_at}
 use Rattle.vec_graph.specs.Effect.{state_after}
 use Rattle.neighbour_pick.specs.declared.found.Found.{Found}
-use Rattle.graph_search.specs.Reads.{Look, AtNode, Answer, Gone, OfNode, is_version, node_answer, answer_of, AreReadAt}
+use Rattle.graph_search.specs.Reads.{Look, Answer, Gone, OfNode, is_version, node_answer, answer_of, AreReadAt}
 use Rattle.graph_search.specs.Search.{element_of}
 use Rattle.graph_search.specs.Scan.{IsTold, IsPresent}
 use Rattle.graph_search.proofs.Words.{both_false}
@@ -32,7 +32,7 @@ module _ (base : Graph) (acts : List Act) where
     present_from (Some m) stands is =
         elim (m.deleted || (nat_lt m.level layer || not (is_version version m.version))) as
         (λ b. (m.deleted || (nat_lt m.level layer || not (is_version version m.version))) ≡ b
-            → element_of ops query at (cond b Gone (OfNode m.level m.version m.list_at m.ids m.bits)) ≡ e ∷ [] → IsPresent base acts ops query e) [
+        → element_of ops query at (cond b Gone (OfNode m.level m.version m.list_at m.ids m.bits)) ≡ e ∷ [] → IsPresent base acts ops query e) [
           | true ↦ λ t told. absurd cc
           | false ↦ λ t told.
               let same = same_Some _ e (ap (λ (es : List Found). slice_get es 0) told) in

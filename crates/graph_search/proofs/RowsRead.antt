@@ -1,7 +1,6 @@
 -- Each row of a batch was read in it.
-use Rattle.std.proofs.Common.{◌≡◌, ℕ, zero, suc, ◌+◌, ◌-◌, Bool, true, false, cond, not, ◌&&◌, ◌||◌, List, [], ◌∷◌, ◌++◌, filter, map, flat_map, take, slice_get, Option, Some, None, refl, sym, ap, subst, ◌∙◌, append_assoc, true≢false}
+use Rattle.std.proofs.Common.{◌≡◌, ℕ, zero, suc, ◌+◌, ◌-◌, Bool, true, false, cond, not, ◌&&◌, ◌||◌, List, [], ◌∷◌, ◌++◌, filter, flat_map, take, slice_get, Option, Some, None, refl, sym, ap, subst, ◌∙◌, append_assoc, true≢false}
 use Rattle.std.proofs.lemmas.Option.{none-some, same_Some}
-use Rattle.std.proofs.lemmas.List.{append-nil}
 use Rattle.std.specs.Ordering.{eq_by_cmp, is_eq}
 use Rattle.vec_names.specs.declared.tid.Tid.{Tid}
 use Rattle.vec_names.specs.declared.params.Ops.{Ops}
@@ -10,7 +9,7 @@ use Rattle.bit_dist.specs.declared.dist.Dist.{Dist}
 use Rattle.neighbour_pick.specs.declared.found.Found.{Found}
 use Rattle.neighbour_pick.proofs.Choosing.{All_of, ranked_all, got_all}
 use Rattle.graph_search.specs.Reads.{Look, AtMeta, AtNode, Answer, Gone, OfMeta, OfNode, OfList, OfPage}
-use Rattle.graph_search.specs.Search.{Start, Turn, Bounds, element_of, elements_of, learned, known, found_in, only_ef, place_of, is_live, is_among, is_before, course_reads, LayerSearch, IsMet, begun, read}
+use Rattle.graph_search.specs.Search.{Start, Turn, element_of, elements_of, learned, known, found_in, only_ef, is_live, is_among, is_before, course_reads, IsMet, begun, read}
 use Rattle.graph_search.specs.Descent.{or_from, start_at, IsLowered, Descent, no_entry, entry_gone, lowered}
 use Rattle.graph_search.specs.Scan.{Given, rows_of, Standing, below, FirstBatch, is_known_at, TakesOne, TakesIn, Mode, Off, Relaxed, Strict, is_less, without_nearer, let_through, NextBatch, IsTold, IsRowRead}
 use Rattle.graph_search.proofs.WorkedSearch.{itself}
@@ -149,8 +148,8 @@ module _ (ops : Ops) (query : List Bool) where
       subst (λ (gs : List Given). All_of (IsRowRead ops query (before ++ again)) gs) (sym no_rows) tt
   takes_read earlier (e ∷ es) before again rows all took =
       elim (is_known_at earlier e.at) as (λ b. is_known_at earlier e.at ≡ b
-          → TakesOne b ops query e (λ rest others. TakesIn ops query earlier es rest others) again rows
-          → All_of (IsRowRead ops query (before ++ again)) rows) [
+      → TakesOne b ops query e (λ rest others. TakesIn ops query earlier es rest others) again rows
+      → All_of (IsRowRead ops query (before ++ again)) rows) [
         | true ↦ λ is t. anew before e (λ rest others. TakesIn ops query earlier es rest others) again rows
             (λ r rest others on. takes_read earlier es (before ++ r ∷ []) rest others
             (all_weaker (WasTold before earlier) (WasTold (before ++ r ∷ []) earlier) es (λ f was new. told_left before (r ∷ []) f (was new)) all.1) on) t

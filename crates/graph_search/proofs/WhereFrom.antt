@@ -1,8 +1,7 @@
 -- Where the elements of a result come from.
-use Rattle.std.proofs.Common.{◌≡◌, ℕ, zero, suc, Bool, not, ◌&&◌, List, [], ◌∷◌, ◌++◌, true, false, cond, filter, map, take, slice_get, Option, Some, None, refl, sym, ap, subst, ◌∙◌}
+use Rattle.std.proofs.Common.{◌≡◌, ℕ, zero, suc, Bool, not, ◌&&◌, List, [], ◌∷◌, ◌++◌, true, false, cond, filter, map, take, slice_get, Some, None, refl, sym, ap, subst, ◌∙◌}
 use Rattle.std.proofs.lemmas.Option.{none-some, same_Some}
 use Rattle.vec_names.specs.declared.tid.Tid.{Tid}
-use Rattle.vec_names.specs.declared.params.Ops.{Ops}
 use Rattle.bit_dist.specs.Distances.{distance_of}
 use Rattle.list_values.proofs.Parts.{in_whole}
 use Rattle.neighbour_pick.specs.declared.found.Found.{Found}
