@@ -1,5 +1,5 @@
 -- The first insert of an empty index.
-use Rattle.std.proofs.Common.{◌≡◌, ℕ, Bool, cond, not, ◌&&◌, ◌==◌, List, [], ◌∷◌, ◌++◌, Some, None, refl, sym, ap, ◌∙◌}
+use Rattle.std.proofs.Common.{◌≡◌, ℕ, Bool, cond, not, ◌&&◌, ◌==◌, List, [], ◌∷◌, ◌++◌, None, refl, sym, ap, ◌∙◌}
 use Rattle.std.proofs.Math.Bool.{and-false}
 use Rattle.std.proofs.lemmas.Bool.{eq-eqb}
 use Rattle.vec_names.specs.declared.tid.Tid.{Tid}
@@ -10,7 +10,7 @@ use Rattle.vec_history.specs.declared.gate.Gate.TheVariants.{Update}
 use Rattle.vec_history.specs.declared.gate.Hold.TheVariants.{Shared, Alone}
 use Rattle.vec_graph.specs.declared.place.Place.{Place}
 use Rattle.graph_search.specs.Deeds.{PutsNew, Enters, Hints, Takes, Releases, Done, Placed, Deed, asked, events_of}
-use Rattle.graph_search.specs.Insert.{hinting, node_of, PutsNode, Put, InsertCourse, meta_look, alone, newcomer, WholeInsert}
+use Rattle.graph_search.specs.Insert.{hinting, PutsNode, Put, InsertCourse, meta_look, alone, newcomer, WholeInsert}
 use Rattle.graph_search.specs.Examples.{no_entry_reads, no_lists, empty_meta, first_node, first_insert, first_events}
 use Rattle.graph_search.proofs.NoEntry.{lists_of_none}
 

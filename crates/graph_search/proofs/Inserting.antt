@@ -1,5 +1,5 @@
 -- Which rows an insert makes.
-use Rattle.std.proofs.Common.{◌≡◌, ℕ, zero, suc, ◌-◌, Bool, true, false, cond, List, [], ◌∷◌, ◌++◌, filter, map, Option, Some, None, refl, sym, ap, subst, ◌∙◌, append_assoc, nat_lt, not, ◌&&◌, ◌==◌, ◌⊎◌, inl, inr}
+use Rattle.std.proofs.Common.{◌≡◌, ℕ, zero, suc, ◌-◌, Bool, true, false, cond, List, [], ◌∷◌, ◌++◌, filter, Option, Some, None, refl, sym, ap, subst, ◌∙◌, append_assoc, nat_lt, not, ◌&&◌, ◌==◌, inl, inr}
 use Rattle.std.proofs.lemmas.List.{append-nil}
 use Rattle.std.proofs.lemmas.List.Elements.{filter-append}
 use Rattle.vec_names.specs.declared.tid.Tid.{Tid}
@@ -14,7 +14,7 @@ use Rattle.neighbour_pick.specs.declared.found.Found.{Found}
 use Rattle.neighbour_pick.proofs.Choosing.{All_of}
 use Rattle.graph_search.specs.Reads.{Look, Answer}
 use Rattle.graph_search.specs.Deeds.{NewNode, Change, Joins, Releases, Reply, Done, Placed, NoRoom, Full, NotJoined, Stale, Changed, Deed, asked, looks_of, reply_events, deed_events, events_of, is_of_row, rows_made, put_event}
-use Rattle.graph_search.specs.Insert.{Newcomer, Lists, Target, ListLooked, Try, no_list, no_slot, linked, stale, changed, Tries, LinksBack, may_join, IsRefused, AsksToJoin, AsksForPlace, entering, hinting, node_of, PutsNode, Outcome, Joined, Put, EndsAs, InsertCourse, MetaTold, Opens, beside, alone, newcomer, WholeInsert, PutsWhatItFound}
+use Rattle.graph_search.specs.Insert.{Newcomer, Lists, Target, ListLooked, Try, no_list, no_slot, linked, stale, changed, Tries, LinksBack, may_join, IsRefused, AsksToJoin, AsksForPlace, entering, hinting, node_of, PutsNode, Outcome, Joined, Put, EndsAs, MetaTold, Opens, beside, alone, newcomer, WholeInsert, PutsWhatItFound}
 use Rattle.graph_search.proofs.Ordered.{filter_all}
 
 module _ (m : ℕ) where

@@ -6,3 +6,6 @@ pub mod Doing
 pub mod Words
 pub mod WhereFrom
 pub mod FirstInsert
+pub mod RowsRead
+pub mod Presence
+pub mod Holding

@@ -1,5 +1,5 @@
 -- Where there is nowhere to begin.
-use Rattle.std.proofs.Common.{◌≡◌, ◌++◌, ℕ, Bool, true, List, [], ◌∷◌, Some, None, refl}
+use Rattle.std.proofs.Common.{◌≡◌, ◌++◌, ℕ, Bool, true, List, [], None, refl}
 use Rattle.vec_names.specs.declared.tid.Tid.{Tid}
 use Rattle.vec_names.specs.declared.params.Ops.{Ops}
 use Rattle.graph_search.specs.Reads.{Look, Answer, Gone}

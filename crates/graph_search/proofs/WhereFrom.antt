@@ -1,8 +1,7 @@
 -- Where the elements of a result come from.
-use Rattle.std.proofs.Common.{◌≡◌, ℕ, zero, suc, Bool, not, ◌&&◌, List, [], ◌∷◌, ◌++◌, true, false, cond, filter, map, take, slice_get, Option, Some, None, refl, sym, ap, subst, ◌∙◌}
+use Rattle.std.proofs.Common.{◌≡◌, ℕ, zero, suc, Bool, not, ◌&&◌, List, [], ◌∷◌, ◌++◌, true, false, cond, filter, map, take, slice_get, Some, None, refl, sym, ap, subst, ◌∙◌}
 use Rattle.std.proofs.lemmas.Option.{none-some, same_Some}
 use Rattle.vec_names.specs.declared.tid.Tid.{Tid}
-use Rattle.vec_names.specs.declared.params.Ops.{Ops}
 use Rattle.bit_dist.specs.Distances.{distance_of}
 use Rattle.list_values.proofs.Parts.{in_whole}
 use Rattle.neighbour_pick.specs.declared.found.Found.{Found}
@@ -12,26 +11,26 @@ use Rattle.graph_search.specs.Search.{Start, Turn, element_of, elements_of, lear
 
 -- ---- parts of lists
 
-in_left : {X : Type 0} (xs ys : List X) (i : ℕ) (x : X) → slice_get xs i ≡ Some x → slice_get (xs ++ ys) i ≡ Some x
+pub in_left : {X : Type 0} (xs ys : List X) (i : ℕ) (x : X) → slice_get xs i ≡ Some x → slice_get (xs ++ ys) i ≡ Some x
 in_left [] ys i x e = absurd (none-some x e)
 in_left (y ∷ xs) ys zero x e = e
 in_left (y ∷ xs) ys (suc i) x e = in_left xs ys i x e
 
-in_right : {X : Type 0} (xs ys : List X) (i : ℕ) (x : X) → slice_get ys i ≡ Some x → (j : ℕ) × (slice_get (xs ++ ys) j ≡ Some x)
+pub in_right : {X : Type 0} (xs ys : List X) (i : ℕ) (x : X) → slice_get ys i ≡ Some x → (j : ℕ) × (slice_get (xs ++ ys) j ≡ Some x)
 in_right [] ys i x e = (i, e)
 in_right (y ∷ xs) ys i x e = let there = in_right xs ys i x e in (suc there.0, there.1)
 
-both_parts : {X : Type 0} (P : X → Type 0) (xs ys : List X) → All_of P xs → All_of P ys → All_of P (xs ++ ys)
+pub both_parts : {X : Type 0} (P : X → Type 0) (xs ys : List X) → All_of P xs → All_of P ys → All_of P (xs ++ ys)
 unfolding All_of
 both_parts P [] ys p q = q
 both_parts P (x ∷ xs) ys p q = (p.0, both_parts P xs ys p.1 q)
 
-all_weaker : {X : Type 0} (P Q : X → Type 0) (xs : List X) → ((x : X) → P x → Q x) → All_of P xs → All_of Q xs
+pub all_weaker : {X : Type 0} (P Q : X → Type 0) (xs : List X) → ((x : X) → P x → Q x) → All_of P xs → All_of Q xs
 unfolding All_of
 all_weaker P Q [] weaker all = tt
 all_weaker P Q (x ∷ xs) weaker all = (weaker x all.0, all_weaker P Q xs weaker all.1)
 
-filtered_all : {X : Type 0} (P : X → Type 0) (p : X → Bool) (xs : List X) → All_of P xs → All_of P (filter p xs)
+pub filtered_all : {X : Type 0} (P : X → Type 0) (p : X → Bool) (xs : List X) → All_of P xs → All_of P (filter p xs)
 unfolding All_of
 filtered_all P p [] all = tt
 filtered_all P p (x ∷ xs) all =
@@ -40,7 +39,7 @@ filtered_all P p (x ∷ xs) all =
       | false ↦ filtered_all P p xs all.1
     ]
 
-each_all : {X : Type 0} (P : X → Type 0) (xs : List X) → ((i : ℕ) (x : X) → slice_get xs i ≡ Some x → P x) → All_of P xs
+pub each_all : {X : Type 0} (P : X → Type 0) (xs : List X) → ((i : ℕ) (x : X) → slice_get xs i ≡ Some x → P x) → All_of P xs
 unfolding All_of
 each_all P [] each = tt
 each_all P (x ∷ xs) each = (each 0 x refl, each_all P xs (λ i y e. each (suc i) y e))
@@ -84,7 +83,7 @@ module _ (s : Start) where
       all_weaker (IsMet s (node_reads t.nodes)) (IsMet s (turn_reads s.layer t)) (elements_of s.ops s.query t.nodes)
       (λ e met. more_right (take 1 (turn_reads s.layer t)) (node_reads t.nodes) e met) (nodes_met t.nodes)
 
-  learned_met : (turns : List Turn) → All_of (IsMet s (course_reads s.layer turns)) (learned s turns)
+  pub learned_met : (turns : List Turn) → All_of (IsMet s (course_reads s.layer turns)) (learned s turns)
   unfolding All_of
   learned_met [] = tt
   learned_met (t ∷ turns) =

@@ -15,7 +15,7 @@ self n = grind (arith, nat_tests)
 turned : (x y : Tid) → tid_cmp x y ≡ Less → tid_cmp y x ≡ Greater
 turned x y e = tid_cmp_total.antisymm y x ∙ ap ordering_reverse e
 
-itself : (x : Tid) → tid_cmp x x ≡ Equal
+pub itself : (x : Tid) → tid_cmp x x ≡ Equal
 itself x = rw (self x.block, self x.off) refl
 
 module _ (a b c : Stand) (ab : tid_cmp a.at b.at ≡ Less) (ac : tid_cmp a.at c.at ≡ Less) (bc : tid_cmp b.at c.at ≡ Less) where

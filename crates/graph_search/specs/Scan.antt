@@ -1,15 +1,20 @@
 -- A scan in batches: the HNSW paper's Algorithm 5, and after pgvector's iterative scans its going on for more. How a
 -- batch goes on, reads anew what it met before, and ends, is this project's own rule.
-use Rattle.std.specs.Prelude.{◌≡◌, ℕ, ⊤, if◌then◌else◌, Bool, true, false, List, [], ◌∷◌, ◌++◌, map, flat_map, take, Option, Some, None}
+use Rattle.std.specs.Prelude.{◌≡◌, ◌≤◌, ◌||◌, ℕ, ⊤, if◌then◌else◌, Bool, true, false, List, [], ◌∷◌, ◌++◌, map, filter, flat_map, take, length, slice_get, Option, Some, None}
 use Rattle.std.specs.Ordering.{is_lt}
 use Rattle.vec_names.specs.declared.tid.Tid.{Tid}
 use Rattle.vec_names.specs.declared.heap_id.HeapId.{HeapId}
 use Rattle.vec_names.specs.declared.params.Ops.{Ops}
 use Rattle.bit_dist.specs.declared.dist.Dist.{Dist}
-use Rattle.bit_dist.specs.Distances.{dist_cmp}
+use Rattle.bit_dist.specs.Distances.{dist_cmp, distance_of}
+use Rattle.vec_history.specs.declared.event.Act.{Act}
+use Rattle.vec_graph.specs.declared.node.Node.{Node}
+use Rattle.vec_graph.specs.declared.graph.Graph.{Graph}
+use Rattle.vec_graph.specs.Graph.{node_at}
+use Rattle.vec_graph.specs.Effect.{state_after}
 use Rattle.neighbour_pick.specs.declared.found.Found.{Found}
 use Rattle.graph_search.specs.Reads.{Look, AtNode, Answer}
-use Rattle.graph_search.specs.Search.{Turn, Start, Bounds, is_among, place_of, element_of, known, found_in, is_halted, IsCourse, course_reads, only_ef}
+use Rattle.graph_search.specs.Search.{Turn, Start, Bounds, is_among, place_of, element_of, known, named, open_in, found_in, in_order, is_live, is_done, is_most, is_halted, IsCourse, course_reads, only_ef}
 use Rattle.graph_search.specs.Descent.{Descent, start_at}
 
 -- a row that is answered: its id, the distance of its value, and which element gave it
@@ -145,3 +150,72 @@ pub record NextBatch (ef most : ℕ) (mode : Mode) (old : Standing) (reads : Lis
     taken = old.taken ++ map place_of batch;
     last = last_dist old.last given;
   }
+
+-- ---- what a search that goes on holds
+
+-- what code can hold of a course: which places have been named, the elements that are not expanded and those that were found and not
+-- taken, both in order, the latter with whether an earlier batch knew them, and how many elements are known
+pub record Held : Type 0 where
+  pub is_named : Tid → Bool
+  pub unexpanded : List Found
+  pub found : List (Found × Bool)
+  pub count : ℕ
+
+-- The search holds this after these turns, where these places were taken, and earlier batches knew those elements.
+pub record HoldsAfter (s : Start) (turns : List Turn) (taken : List Tid) (earlier : List Found) (h : Held) : Type 0 where
+  pub names : (at : Tid) → h.is_named at ≡ is_among (named s turns) at
+  pub unexpanded_are : h.unexpanded ≡ open_in s turns
+  pub found_are : h.found ≡ map (λ e. (e, is_known_at earlier e.at)) (found_in s (record { ef = 1; taken = taken; most = None }) turns)
+  pub count_is : h.count ≡ length (known s turns)
+
+-- what it holds where it begins
+abbrev pub begins_with : Start → Held
+begins_with s = record {
+  is_named = is_among (map place_of s.from);
+  unexpanded = in_order s.from;
+  found = map (λ e. (e, false)) (in_order (filter is_live s.from));
+  count = length s.from;
+}
+
+-- whether a search that holds this is over
+abbrev pub is_over : ℕ → Option ℕ → Held → Bool
+is_over ef most h = is_done ef (map (λ p. p.0) h.found) h.unexpanded || is_most most h.count
+
+-- A search goes on from what it holds: so many turns more, up to where it halts, with their reads. Whatever course it is after.
+pub record GoesOnTo (s : Start) (ef : ℕ) (most : Option ℕ) (turns : List Turn) (taken : List Tid) (reads : List (Look × Answer))
+    (more : List Turn) : Type 0 where
+  pub course : IsCourse s (record { ef = ef; taken = taken; most = most }) turns more
+  pub halted : is_halted s (record { ef = ef; taken = taken; most = most }) (turns ++ more) ≡ true
+  pub reads_are : reads ≡ course_reads s.layer more
+
+-- ---- where rows come from
+
+-- one of these reads told the element
+pub record IsTold (ops : Ops) (query : List Bool) (reads : List (Look × Answer)) (e : Found) : Type 0 where
+  pub number : ℕ
+  pub at : Tid
+  pub layer : ℕ
+  pub version : Option ℕ
+  pub told : Answer
+  pub among : slice_get reads number ≡ Some (AtNode at layer version, told)
+  pub is : element_of ops query at told ≡ e ∷ []
+
+-- the row is one of an element that one of these reads told
+pub record IsRowRead (ops : Ops) (query : List Bool) (reads : List (Look × Answer)) (g : Given) : Type 0 where
+  pub element : Found
+  pub told : IsTold ops query reads element
+  pub number : ℕ
+  pub of_element : slice_get (rows_of element) number ≡ Some g
+
+-- At a position of the history a node stands at the element's place that is not deleted, with its version, rows and value; and its
+-- distance is that of the value.
+pub record IsPresent (base : Graph) (acts : List Act) (ops : Ops) (query : List Bool) (e : Found) : Type 0 where
+  pub position : ℕ
+  pub reached : position ≤ length acts
+  pub node : Node
+  pub stands : node_at (state_after base acts position) e.at ≡ Some node
+  pub not_deleted : node.deleted ≡ false
+  pub of_version : node.version ≡ e.version
+  pub of_ids : node.ids ≡ e.ids.items
+  pub of_bits : node.bits ≡ e.bits
+  pub exact : e.dist ≡ distance_of ops query node.bits

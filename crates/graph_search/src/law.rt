@@ -5,7 +5,7 @@ ghost use Rattle.neighbour_pick.specs.declared.found.Found.{Found as Elements};
 ghost use Rattle.vec_names.specs.declared.tid.Tid.{Tid};
 ghost use Rattle.vec_names.specs.declared.params.Ops.{Ops};
 ghost use Rattle.graph_search.specs.Reads.{Look, Answer, AreReadAt};
-ghost use Rattle.graph_search.specs.Scan.{FirstBatch};
+ghost use Rattle.graph_search.specs.Scan.{Given, Mode, Standing, FirstBatch, NextBatch, IsTold, IsRowRead, IsPresent, Held, HoldsAfter, is_over, GoesOnTo, begins_with};
 ghost use Rattle.vec_names.specs.declared.params.Params.{Params as Parameters};
 ghost use Rattle.vec_names.specs.declared.heap_id.HeapId.{HeapId};
 ghost use Rattle.vec_history.specs.declared.event.Event.TheVariants.{Join};
@@ -20,7 +20,7 @@ ghost use Rattle.graph_search.specs.Deeds.{Deed, looks_of, events_of, rows_made,
 ghost use Rattle.graph_search.specs.Insert.{Newcomer, InsertLists, may_join, Outcome, Joined, Put, WholeInsert, PutsWhatItFound};
 ghost use Rattle.std.specs.declared.cmp.Ordering.TheVariants.{Less};
 ghost use Rattle.vec_names.specs.Order.{tid_cmp};
-ghost use Rattle.graph_search.specs.Search.{Start, LayerSearch, IsMet, AreExact, is_live, is_before, course_reads};
+ghost use Rattle.graph_search.specs.Search.{Start, Bounds, Turn, is_halted, LayerSearch, IsMet, AreExact, is_live, is_before, course_reads};
 ghost use Rattle.graph_search.specs.Examples.{Stand, zeros, last_two, last_three, last_one, element_at, from_first, three_turns, one_turn, from_nearest, turns_through, no_entry_reads, gone_entry_reads, nothing_found, no_lists, first_insert, first_events};
 
 /// A law, and no work. The search of one layer gives at most ef elements, each of which was live as it was read, and none
@@ -122,4 +122,33 @@ pub fn law_worked_insert()
         → WholeInsert params id bits word (Put place) (first_insert params id bits word place) }
     ensures events { (params : Parameters) (id : HeapId) (bits : List Bool) (word : ℕ) (place : Places)
         → events_of params.m (first_insert params id bits word place) ≡ first_events params id bits word place }
+{}
+
+/// A law, and no work. Each row of a batch was read in it: one of its looks told the row's element, with the row among those
+/// of the element. That holds of a next batch too, which looks anew at what it met before. And an element that a read of a
+/// history told was present when it was read: a node that was not deleted stood there, with this version, these rows and this
+/// value, from which its distance is.
+pub fn law_batches()
+    ensures first { (ops : Ops) (query : List Bool) (ef : ℕ) (reads : List (Look × Answer)) (given : List Given) (end : Bool) (now : Standing)
+        → FirstBatch ops query ef reads given end now → (i : ℕ) (g : Given) → slice_get given i ≡ Some g → IsRowRead ops query reads g }
+    ensures next { (ef most : ℕ) (mode : Mode) (old : Standing) (reads : List (Look × Answer)) (given : List Given) (end : Bool)
+        (now : Standing) → NextBatch ef most mode old reads given end now
+        → (i : ℕ) (g : Given) → slice_get given i ≡ Some g → IsRowRead old.start.ops old.start.query reads g }
+    ensures present { (base : Graphs) (acts : List Acts) (ops : Ops) (query : List Bool) (positions : List ℕ)
+        (reads : List (Look × Answer)) (e : Elements) → AreReadAt base acts positions reads → IsTold ops query reads e
+        → IsPresent base acts ops query e }
+{}
+
+/// A law, and no work. A search can hold its course in what `HoldsAfter` names: where it begins that is known, and whether it
+/// is over can be told from it. A layer's search, and the search of a next batch, each go on so.
+pub fn law_going_on()
+    ensures begins { (s : Start) → HoldsAfter s [] [] [] (begins_with s) }
+    ensures over { (s : Start) (turns : List Turn) (taken : List Tid) (earlier : List Elements) (h : Held) (ef : ℕ) (most : Option ℕ)
+        → HoldsAfter s turns taken earlier h
+        → is_over ef most h ≡ is_halted s (record { ef = ef; taken = taken; most = most }) turns }
+    ensures search { (s : Start) (ef : ℕ) (reads : List (Look × Answer)) (result : List Elements) (search : LayerSearch s ef reads result)
+        → GoesOnTo s ef None [] [] reads search.turns }
+    ensures batch { (ef most : ℕ) (mode : Mode) (old : Standing) (reads : List (Look × Answer)) (given : List Given) (end : Bool)
+        (now : Standing) (b : NextBatch ef most mode old reads given end now) → old.start.layer ≡ 0
+        → GoesOnTo old.start ef (Some most) old.turns old.taken (course_reads 0 b.more) b.more }
 {}

@@ -3,7 +3,9 @@ use super::*;
 // The laws need nothing.
 #[test]
 fn laws_of_searches() {
+    law_batches();
     law_deeds();
+    law_going_on();
     law_insert();
     law_no_entry();
     law_search();
