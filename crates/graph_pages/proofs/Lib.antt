@@ -36,3 +36,4 @@ pub mod PutNewFits
 pub mod FormatKept
 pub mod RedoEffect
 pub mod PutFreshFits
+pub mod BlocksKept

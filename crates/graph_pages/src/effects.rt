@@ -110,6 +110,12 @@ pub fn law_redo()
         → Stands after (effect wrap event g) }
 {}
 
+/// A law, and no work. Redo of an event that follows leaves at most 32,768 pages, where there were no more.
+pub fn law_blocks()
+    ensures { (pages after : List Content) (g : Graph) (event : Events) (wrap number : ℕ) → length pages ≤ MOST_BLOCKS
+        → Follows pages g event → AreAllRedone g.params wrap number event pages after → length after ≤ MOST_BLOCKS }
+{}
+
 /// A law, and no work. Redo keeps the format of the meta tuple, whatever the event. The level of an entry has one byte.
 pub fn law_format()
     ensures { (pages after : List Content) (g : Graph) (event : Events) (wrap number : ℕ) → All IsPage pages → Stands pages g

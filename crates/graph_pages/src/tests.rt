@@ -1,10 +1,11 @@
 //! Pages that stand for a graph, and pages that break each of the rules.
 
 use crate::{
-    GraphFault, graph_of, law_drop, law_drop_fits, law_entry, law_entry_fits, law_format,
-    law_fresh, law_hint, law_hint_fits, law_join, law_join_fits, law_link, law_link_fits, law_mark,
-    law_mark_fits, law_once, law_one_block, law_put_again, law_put_again_fits, law_put_fresh_fits,
-    law_put_new, law_put_new_fits, law_redo, law_relist, law_relist_fits, law_standing,
+    GraphFault, graph_of, law_blocks, law_drop, law_drop_fits, law_entry, law_entry_fits,
+    law_format, law_fresh, law_hint, law_hint_fits, law_join, law_join_fits, law_link,
+    law_link_fits, law_mark, law_mark_fits, law_once, law_one_block, law_put_again,
+    law_put_again_fits, law_put_fresh_fits, law_put_new, law_put_new_fits, law_redo, law_relist,
+    law_relist_fits, law_standing,
 };
 use bit_code::read_bits;
 use page_bytes::{Page, PageKind};
@@ -403,6 +404,7 @@ fn redo_is_the_effect_on_the_graph(rt: HostRuntime) -> Result<(), Fail> {
 fn laws_are_called(_rt: HostRuntime) -> Result<(), Fail> {
     law_standing();
     law_format();
+    law_blocks();
     law_fresh();
     law_once();
     law_one_block();
