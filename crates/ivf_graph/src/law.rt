@@ -114,11 +114,12 @@ pub fn law_later(base: &IvfGraph, acts: &[Act])
 {}
 
 /// An event that the rules allow meets what they ask so; and one that meets it and is granted what a step's words say is
-/// allowed. Settling and faults are not spoken of.
+/// allowed, where each block stands once in the chains. Settling and faults are not spoken of.
 pub fn law_asked(base: &IvfGraph, acts: &[Act])
     ensures asked { (desk : ℕ) (e : Events) → (IsOfAll e → ⊥) → IsEventAllowed (after base.now acts.now) acts.now desk e
         → IsAsked base.now acts.now desk e }
-    ensures allowed { (desk : ℕ) (e : Events) → IsAsked base.now acts.now desk e → IsGranted base.now acts.now desk e
+    ensures allowed { (desk : ℕ) (e : Events) → AreBlocksApart (after base.now acts.now)
+        → IsAsked base.now acts.now desk e → IsGranted base.now acts.now desk e
         → IsEventAllowed (after base.now acts.now) acts.now desk e }
 {}
 
