@@ -1,10 +1,10 @@
 -- A list that another desk has grown.
-use Rattle.std.proofs.Common.{◌≡◌, ℕ, true, false, [], ◌∷◌, length, Some, refl, ap, ◌∙◌, arith, lit<}
-use Rattle.std.proofs.lemmas.Option.{same_Some}
+use Rattle.std.proofs.Common.{◌≡◌, true, false, [], ◌∷◌, length, refl, lit<, sym}
+use Rattle.std.proofs.lemmas.Option.{none-some}
 use Rattle.std.proofs.lemmas.List.Elements.{All-from_recursion}
 use Rattle.vec_history.specs.declared.event.Event.TheVariants.{IvfGrow}
 use Rattle.ivf_graph.specs.declared.list.IvfList.{IvfList}
-use Rattle.ivf_graph.specs.Graph.{Part, last_block}
+use Rattle.ivf_graph.specs.Graph.{Part}
 use Rattle.ivf_graph.specs.Asking.{IsAsked, IsGranted}
 use Rattle.ivf_graph.specs.Examples.{four, row_3, row_4, row_5, worked_index, growing_acts, grown_index}
 
@@ -24,11 +24,5 @@ still_asked = record {
   as_long = All-from_recursion IsOfFour grown_index.lists (refl, (refl, (refl, tt)));
 }
 
-not_same : (m n : ℕ) → m ≡ n → m ≡ 5 → n ≡ 3 → ⊥
-not_same m n same five three = absurd (omega arith)
-
 pub not_granted : IsGranted worked_index growing_acts 2 (IvfGrow 1 3 6 row_4 (four true true true false)) → ⊥
-unfolding part_3 grown_list
-not_granted k =
-    let ends : last_block grown_list.chain ≡ Some 3 = ap (λ (l : IvfList). last_block l.chain) (same_Some grown_list k.grows k.is_there) ∙ k.ends in
-    not_same 5 3 (same_Some 5 3 ends) refl refl
+not_granted k = absurd (none-some 5 (sym k.no_next))

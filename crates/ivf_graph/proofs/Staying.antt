@@ -29,11 +29,11 @@ module _ {X : Type 0} (P : X → Type 0) where
   any_behind : (x : X) (xs : List X) → Any P xs → Any P (x ∷ xs)
   any_behind x xs a = (suc a.0, a.1, (omega (arith, a.2)), a.3, a.4)
 
-  any_of : (x : X) (xs : List X) → Any P (x ∷ xs) → P x ⊎ Any P xs
+  pub any_of : (x : X) (xs : List X) → Any P (x ∷ xs) → P x ⊎ Any P xs
   any_of x xs (zero, y, less, is, p) = inl (subst P (sym is) p)
   any_of x xs (suc k, y, less, is, p) = inr (k, y, (omega (arith, less)), is, p)
 
-  not_any : Any P [] → ⊥
+  pub not_any : Any P [] → ⊥
   not_any a = absurd (omega (arith, a.2))
 
 -- ---- a block of a chain

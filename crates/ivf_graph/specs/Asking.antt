@@ -1,17 +1,17 @@
 -- What the rules ask of a desk's next event, other than what a step answers by a word: whether another desk's hold
 -- stands in the way, whether a block has room, which block ends a chain, whether there is a further block. What is
 -- asked holds on while other desks act.
-use Rattle.std.specs.Prelude.{◌≡◌, ℕ, ◌<◌, ⊤, List, Bool, length, slice_get, Some}
+use Rattle.std.specs.Prelude.{◌≡◌, ℕ, ◌<◌, ⊤, List, Bool, length, Some, None}
 use Rattle.index_sizes.specs.declared.limits.TheConstants.{MOST_BLOCKS}
 use Rattle.vec_history.specs.declared.event.Event.{Event}
 use Rattle.vec_history.specs.declared.event.Event.TheVariants as event
 use Rattle.vec_history.specs.declared.event.Act.{Act}
 use Rattle.vec_history.specs.Gates.{Holds, AgreesWithOthers}
 use Rattle.vec_history.specs.Phases.{IsUngateAllowed}
-use Rattle.ivf_graph.specs.declared.list.IvfList.{IvfList}
 use Rattle.ivf_graph.specs.declared.graph.IvfGraph.{IvfGraph}
-use Rattle.ivf_graph.specs.Graph.{Row, last_block, rows_on, HasRoom, IsAsLong}
+use Rattle.ivf_graph.specs.Graph.{Row, rows_on, HasRoom, IsAsLong}
 use Rattle.ivf_graph.specs.Effect.{after}
+use Rattle.ivf_graph.specs.Looks.{next_on}
 use Rattle.ivf_graph.specs.Rules.{IsCutAllowed, IsAimAllowed}
 
 -- ---- what is asked
@@ -57,18 +57,16 @@ pub record IsRoomOn (g : IvfGraph) (block places : ℕ) : Type 0 where
   pub stands : rows_on g block ≡ Some rows
   pub room : HasRoom rows places
 
--- the block ends the list's chain, and the new one is the next of all, of which there is a further one
-pub record IsEndOf (g : IvfGraph) (list last block : ℕ) : Type 0 where
-  pub grows : IvfList
-  pub is_there : slice_get g.lists list ≡ Some grows
-  pub ends : last_block grows.chain ≡ Some last
+-- no block is behind this one, and the new one is the next of all, of which there is a further one
+pub record IsLast (g : IvfGraph) (last block : ℕ) : Type 0 where
+  pub no_next : next_on g last ≡ None
   pub is_next : block ≡ g.blocks
   pub not_high : block < MOST_BLOCKS
 
 -- what a step does besides answers that it was not done
 abbrev pub IsGranted : IvfGraph → List Act → ℕ → Event → Type 0
 IsGranted base acts desk (event.IvfAdd block id bits) = IsRoomOn (after base acts) block (length bits)
-IsGranted base acts desk (event.IvfGrow list last block id bits) = IsEndOf (after base acts) list last block
+IsGranted base acts desk (event.IvfGrow list last block id bits) = IsLast (after base acts) last block
 IsGranted base acts desk (event.Gate gate hold) = AgreesWithOthers acts desk gate hold
 IsGranted base acts desk _ = ⊤
 

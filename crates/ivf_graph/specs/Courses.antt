@@ -15,7 +15,7 @@ use Rattle.ivf_graph.specs.Graph.{Row, rows_on, HasRoom}
 use Rattle.ivf_graph.specs.Effect.{state_after}
 use Rattle.ivf_graph.specs.Looks.{next_on, Centre, centre_pages}
 use Rattle.ivf_graph.specs.Reads.{centres_read, is_centre_nearer, IsRising}
-use Rattle.ivf_graph.specs.Asking.{IsRoomOn, IsEndOf}
+use Rattle.ivf_graph.specs.Asking.{IsRoomOn, IsLast}
 
 -- ---- turns
 
@@ -53,7 +53,7 @@ pub data Places (list : ℕ) (id : HeapId) (bits : List Bool) : ℕ → List Tur
       → Places list id bits block ((g, Some (event.IvfAdd block id bits)) ∷ []) block
   goes_on : (g : IvfGraph) (block next : ℕ) (turns : List Turn) (end : ℕ) → IsFull g block (length bits) → next_on g block ≡ Some next
       → Places list id bits next turns end → Places list id bits block ((g, None) ∷ turns) end
-  grows : (g h : IvfGraph) (block new : ℕ) → IsFull g block (length bits) → next_on g block ≡ None → IsEndOf h list block new
+  grows : (g h : IvfGraph) (block new : ℕ) → IsFull g block (length bits) → next_on g block ≡ None → IsLast h block new
       → Places list id bits block ((g, None) ∷ (h, Some (event.IvfGrow list block new id bits)) ∷ []) new
   has_grown : (g h : IvfGraph) (block next : ℕ) (turns : List Turn) (end : ℕ) → IsFull g block (length bits) → next_on g block ≡ None
       → next_on h block ≡ Some next → Places list id bits next turns end → Places list id bits block ((g, None) ∷ (h, None) ∷ turns) end

@@ -99,7 +99,8 @@ pub fn law_still(base: &IvfGraph, acts: &[Act])
         → IsAnswerAt base.now acts.now (replicate reads n) query probes answer
         → answer ≡ ivf_answer (state_after base.now acts.now n) query probes }
     ensures some { (n probes : ℕ) (query : List Bool) → n ≤ length acts.now → length query ≤ MOST_BITS
-        → (reads : ℕ) × IsAnswerAt base.now acts.now (replicate reads n) query probes (ivf_answer (state_after base.now acts.now n) query probes) }
+        → (reads : ℕ) × IsAnswerAt base.now acts.now (replicate reads n) query probes
+        (ivf_answer (state_after base.now acts.now n) query probes) }
 {}
 
 /// What the rules ask of a desk's next event, other than what a step answers by a word, holds on while other desks act,
@@ -113,11 +114,12 @@ pub fn law_later(base: &IvfGraph, acts: &[Act])
 {}
 
 /// An event that the rules allow meets what they ask so; and one that meets it and is granted what a step's words say is
-/// allowed. Settling and faults are not spoken of.
+/// allowed, where each block stands once in the chains. Settling and faults are not spoken of.
 pub fn law_asked(base: &IvfGraph, acts: &[Act])
     ensures asked { (desk : ℕ) (e : Events) → (IsOfAll e → ⊥) → IsEventAllowed (after base.now acts.now) acts.now desk e
         → IsAsked base.now acts.now desk e }
-    ensures allowed { (desk : ℕ) (e : Events) → IsAsked base.now acts.now desk e → IsGranted base.now acts.now desk e
+    ensures allowed { (desk : ℕ) (e : Events) → AreBlocksApart (after base.now acts.now)
+        → IsAsked base.now acts.now desk e → IsGranted base.now acts.now desk e
         → IsEventAllowed (after base.now acts.now) acts.now desk e }
 {}
 
@@ -169,7 +171,8 @@ pub fn law_examples()
     ensures vacuum { IsVacuumedAt worked_index vacuum_acts 1 4 is_row_3 0 3 (1 ∷ []) (1 ∷ 1 ∷ 1 ∷ 2 ∷ 3 ∷ []) }
 
     // It takes the row 1/3 away, and 1/4 behind it moves up.
-    ensures moves_up { (place_later vacuum_acts 3 0 ≡ None) × (place_later vacuum_acts 3 1 ≡ Some 0) × (place_later vacuum_acts 2 0 ≡ Some 0) }
+    ensures moves_up { (place_later vacuum_acts 3 0 ≡ None) × (place_later vacuum_acts 3 1 ≡ Some 0)
+        × (place_later vacuum_acts 2 0 ≡ Some 0) }
 
     // A row of 64,000 places takes 8,020 of a page's 8,160 bytes, so one page has one of them.
     ensures long_row { row_need MOST_BITS ≡ 8020 }
