@@ -5,7 +5,8 @@ ghost use Rattle.neighbour_pick.specs.declared.found.Found.{Found as Elements};
 ghost use Rattle.vec_names.specs.declared.tid.Tid.{Tid};
 ghost use Rattle.vec_names.specs.declared.params.Ops.{Ops};
 ghost use Rattle.graph_search.specs.Reads.{Look, Answer, AreReadAt};
-ghost use Rattle.graph_search.specs.Scan.{Given, Mode, Standing, FirstBatch, NextBatch, IsTold, IsRowRead, IsPresent, Held, HoldsAfter, is_over, GoesOnTo, begins_with};
+ghost use Rattle.graph_search.specs.Scan.{Given, Mode, Standing, FirstBatch, NextBatch, IsTold};
+ghost use Rattle.graph_search.specs.Scan.{IsRowRead, IsPresent, Held, HoldsAfter, is_over, GoesOnTo, begins_with};
 ghost use Rattle.vec_names.specs.declared.params.Params.{Params as Parameters};
 ghost use Rattle.vec_names.specs.declared.heap_id.HeapId.{HeapId};
 ghost use Rattle.vec_history.specs.declared.event.Event.TheVariants.{Join};
@@ -21,7 +22,8 @@ ghost use Rattle.graph_search.specs.Insert.{Newcomer, InsertLists, may_join, Out
 ghost use Rattle.std.specs.declared.cmp.Ordering.TheVariants.{Less};
 ghost use Rattle.vec_names.specs.Order.{tid_cmp};
 ghost use Rattle.graph_search.specs.Search.{Start, Bounds, Turn, is_halted, LayerSearch, IsMet, AreExact, is_live, is_before, course_reads};
-ghost use Rattle.graph_search.specs.Examples.{Stand, zeros, last_two, last_three, last_one, element_at, from_first, three_turns, one_turn, from_nearest, turns_through, no_entry_reads, gone_entry_reads, nothing_found, no_lists, first_insert, first_events};
+ghost use Rattle.graph_search.specs.Examples.{Stand, zeros, last_two, last_three, last_one, element_at, from_first, three_turns};
+ghost use Rattle.graph_search.specs.Examples.{one_turn, from_nearest, turns_through, no_entry_reads, gone_entry_reads, nothing_found, no_lists, first_insert, first_events};
 
 /// A law, and no work. The search of one layer gives at most ef elements, each of which was live as it was read, and none
 /// of which comes after one that is farther: they rise by distance, and then by place. Each
@@ -129,8 +131,8 @@ pub fn law_worked_insert()
 /// history told was present when it was read: a node that was not deleted stood there, with this version, these rows and this
 /// value, from which its distance is.
 pub fn law_batches()
-    ensures first { (ops : Ops) (query : List Bool) (ef : ℕ) (reads : List (Look × Answer)) (given : List Given) (end : Bool) (now : Standing)
-        → FirstBatch ops query ef reads given end now → (i : ℕ) (g : Given) → slice_get given i ≡ Some g → IsRowRead ops query reads g }
+    ensures first { (ops : Ops) (query : List Bool) (ef : ℕ) (reads : List (Look × Answer)) (given : List Given) (end : Bool)
+        (now : Standing) → FirstBatch ops query ef reads given end now → (i : ℕ) (g : Given) → slice_get given i ≡ Some g → IsRowRead ops query reads g }
     ensures next { (ef most : ℕ) (mode : Mode) (old : Standing) (reads : List (Look × Answer)) (given : List Given) (end : Bool)
         (now : Standing) → NextBatch ef most mode old reads given end now
         → (i : ℕ) (g : Given) → slice_get given i ≡ Some g → IsRowRead old.start.ops old.start.query reads g }
