@@ -4,6 +4,10 @@ use Rattle.std.proofs.lemmas.Bool.{eq-eqb, eqb-true, leb-true, ltb-true}
 use Rattle.index_sizes.specs.declared.limits.TheConstants.{MOST_BLOCKS, MOST_IDS}
 use Rattle.vec_names.specs.declared.tid.Tid.{Tid}
 use Rattle.vec_names.specs.declared.heap_id.HeapId.{HeapId}
+use Rattle.std.specs.Ordering.{is_eq}
+use Rattle.std.specs.declared.cmp.Ordering.{Ordering}
+use Rattle.std.specs.declared.cmp.Ordering.TheVariants.{Less, Equal, Greater}
+use Rattle.vec_names.specs.Order.{tid_cmp, tid_cmp_exact}
 use Rattle.vec_graph.specs.declared.place.Place.{Place}
 use Rattle.vec_graph.specs.declared.node.Node.{Node}
 use Rattle.vec_graph.specs.declared.graph.Graph.{Graph}
@@ -12,7 +16,7 @@ use Rattle.vec_graph.specs.Places.{place_on, new_place, new_blocks}
 use Rattle.vec_graph.specs.Rules.{IsThere, IsPlaced}
 use Rattle.vec_graph.specs.Asking.{IsFresh, TakesAnId}
 use Rattle.vec_graph.proofs.Placing.{placed_block}
-use Rattle.graph_search.specs.Deeds.{NewNode, Joins, PutsOn, PutsNew, Links, Reply, Done, Placed, NoRoom, Full, NotJoined, Stale, Changed, is_stale, is_still, join_reply, link_reply, place_reply, reply_of}
+use Rattle.graph_search.specs.Deeds.{NewNode, Joins, PutsOn, PutsNew, Links, Reply, Done, Placed, NoRoom, Full, NotJoined, Stale, Changed, is_stale, is_same_slot, is_still, HoldsInSlot, join_reply, link_reply, place_reply, reply_of}
 
 -- ---- tests
 
@@ -37,6 +41,21 @@ never_stale : (stale room : Bool) (other : Reply) → (other ≡ Stale → ⊥) 
 never_stale true room other differs fresh e = absurd cc
 never_stale false true other differs fresh e = absurd cc
 never_stale false false other differs fresh e = differs e
+
+is_equal : (o : Ordering) → is_eq o ≡ true → o ≡ Equal
+is_equal Less e = absurd cc
+is_equal Equal e = refl
+is_equal Greater e = absurd cc
+
+same_is : (a b : Option Tid) → is_same_slot a b ≡ true → a ≡ b
+same_is None None e = refl
+same_is None (Some b) e = absurd cc
+same_is (Some a) None e = absurd cc
+same_is (Some a) (Some b) e = ap Some (tid_cmp_exact a b (is_equal (tid_cmp a b) e))
+
+still_is : (o : Option (Option Tid)) (held : Option Tid) → is_still o held ≡ true → o ≡ Some held
+still_is None held e = absurd cc
+still_is (Some now) held e = ap Some (same_is now held e)
 
 -- ---- a node that is as it was read
 
@@ -84,6 +103,17 @@ module _ (g : Graph) (at : Tid) (version : ℕ) where
   linked_from layer slot held (Some n) stands e =
       let parts = both_done (is_stale n version) (is_still (slice_get (layer_slots g.params.m n.level layer n.slots) slot) held) Changed (λ is. absurd cc) e in
       record { node = n; there = there_of n stands parts.0 }
+
+  held_from : (list_at : Tid) (layer slot : ℕ) (held : Option Tid) (o : Option Node) → node_at g at ≡ o
+      → link_reply g.params.m o version layer slot held ≡ Done → HoldsInSlot g at layer slot held
+  held_from list_at layer slot held None stands e = absurd cc
+  held_from list_at layer slot held (Some n) stands e =
+      let parts = both_done (is_stale n version) (is_still (slice_get (layer_slots g.params.m n.level layer n.slots) slot) held) Changed (λ is. absurd cc) e in
+      record { node = n; stands = stands; holds = still_is (slice_get (layer_slots g.params.m n.level layer n.slots) slot) held parts.1 }
+
+  pub held_where : (list_at : Tid) (level layer slot : ℕ) (held : Option Tid) (to : Tid)
+      → reply_of g (Links at list_at level version layer slot held to) ≡ Done → HoldsInSlot g at layer slot held
+  held_where list_at level layer slot held to e = held_from list_at layer slot held (node_at g at) refl e
 
   pub links_where : (list_at : Tid) (level layer slot : ℕ) (held : Option Tid) (to : Tid)
       → reply_of g (Links at list_at level version layer slot held to) ≡ Done → IsFresh g at version

@@ -86,6 +86,12 @@ link_reply m (Some n) version layer slot held =
     if is_stale n version then Stale
     else if is_still (slice_get (layer_slots m n.level layer n.slots) slot) held then Done else Changed
 
+-- the node at a place holds this in a slot of a layer
+pub record HoldsInSlot (g : Graph) (at : Tid) (layer slot : ℕ) (held : Option Tid) : Type 0 where
+  pub node : Node
+  pub stands : node_at g at ≡ Some node
+  pub holds : slice_get (layer_slots g.params.m node.level layer node.slots) slot ≡ Some held
+
 abbrev pub place_reply : Option Place → Reply
 place_reply None = NoRoom
 place_reply (Some place) = Placed place

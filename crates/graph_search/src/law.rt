@@ -17,7 +17,7 @@ ghost use Rattle.vec_graph.specs.Places.{place_on};
 ghost use Rattle.vec_graph.specs.Rules.{IsPlaced};
 ghost use Rattle.vec_graph.specs.Asking.{IsFresh, TakesAnId};
 ghost use Rattle.graph_search.specs.Deeds.{NewNode, Joins, PutsOn, PutsNew, Links, Done, Placed, NoRoom, Stale};
-ghost use Rattle.graph_search.specs.Deeds.{Deed, looks_of, events_of, rows_made, reply_of, AreDoneAt, DidBetween};
+ghost use Rattle.graph_search.specs.Deeds.{Deed, looks_of, events_of, rows_made, reply_of, HoldsInSlot, AreDoneAt, DidBetween};
 ghost use Rattle.graph_search.specs.Insert.{Newcomer, InsertLists, may_join, Outcome, Joined, Put, WholeInsert, PutsWhatItFound};
 ghost use Rattle.std.specs.declared.cmp.Ordering.TheVariants.{Less};
 ghost use Rattle.vec_names.specs.Order.{tid_cmp};
@@ -107,6 +107,8 @@ pub fn law_words()
         → IsFresh g at version → ⊥ }
     ensures links { (g : Graphs) (at : Tid) (version : ℕ) (list_at : Tid) (level layer slot : ℕ) (held : Option Tid) (to : Tid)
         → reply_of g (Links at list_at level version layer slot held to) ≡ Done → IsFresh g at version }
+    ensures held { (g : Graphs) (at : Tid) (version : ℕ) (list_at : Tid) (level layer slot : ℕ) (held : Option Tid) (to : Tid)
+        → reply_of g (Links at list_at level version layer slot held to) ≡ Done → HoldsInSlot g at layer slot held }
     ensures stale_link { (g : Graphs) (at : Tid) (version : ℕ) (list_at : Tid) (level layer slot : ℕ) (held : Option Tid) (to : Tid)
         → reply_of g (Links at list_at level version layer slot held to) ≡ Stale → IsFresh g at version → ⊥ }
     ensures placed { (g : Graphs) (node : NewNode) (place : Places) (block : ℕ) → reply_of g (PutsOn block node) ≡ Placed place

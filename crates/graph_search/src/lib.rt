@@ -1,8 +1,8 @@
 //! What a search of the graph is, and what an insert does: the definitions that the operations meet.
 //!
 //! They stand in specs/: `Reads` (what a look tells, and the reads of a history), `Search` (one layer), `Descent` (from
-//! the entry point down), `Scan` (batches) and `Insert` (the lists of a new node, and the links back). The functions
-//! here are laws of those definitions, and do no work.
+//! the entry point down), `Scan` (batches), `Deeds` (looks and changes in order, and in a history) and `Insert` (a whole
+//! insert). The functions here are laws of those definitions, and do no work.
 #![tactic(auto)]
 
 mod law;

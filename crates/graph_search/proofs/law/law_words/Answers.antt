@@ -1,4 +1,4 @@
-use Rattle.graph_search.proofs.Words.{joins_where, stale_join, links_where, stale_link, put_where, put_new_where, no_room}
+use Rattle.graph_search.proofs.Words.{joins_where, stale_join, links_where, held_where, stale_link, put_where, put_new_where, no_room}
 use Rattle.graph_search.proofs.law.law_words.Goals as goal
 
 pub returns-clause-joins : goal.returns-clause-joins
@@ -21,3 +21,6 @@ returns-clause-placed_new c = put_new_where
 
 pub returns-clause-no_room : goal.returns-clause-no_room
 returns-clause-no_room c = no_room
+
+pub returns-clause-held : goal.returns-clause-held
+returns-clause-held c = held_where
