@@ -134,7 +134,8 @@ pub fn law_worked_insert()
 /// value, from which its distance is.
 pub fn law_batches()
     ensures first { (ops : Ops) (query : List Bool) (ef : ℕ) (reads : List (Look × Answer)) (given : List Given) (end : Bool)
-        (now : Standing) → FirstBatch ops query ef reads given end now → (i : ℕ) (g : Given) → slice_get given i ≡ Some g → IsRowRead ops query reads g }
+        (now : Standing) → FirstBatch ops query ef reads given end now → (i : ℕ) (g : Given) → slice_get given i ≡ Some g
+        → IsRowRead ops query reads g }
     ensures next { (ef most : ℕ) (mode : Mode) (old : Standing) (reads : List (Look × Answer)) (given : List Given) (end : Bool)
         (now : Standing) → NextBatch ef most mode old reads given end now
         → (i : ℕ) (g : Given) → slice_get given i ≡ Some g → IsRowRead old.start.ops old.start.query reads g }
