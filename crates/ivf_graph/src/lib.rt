@@ -8,9 +8,9 @@
 //! ones. The functions of `law` are laws of those definitions, and do no work. `audit` judges whole histories.
 #![tactic(auto)]
 
+mod applying;
 mod audit;
 mod blocks;
-mod changes;
 mod copies;
 mod graph;
 mod law;

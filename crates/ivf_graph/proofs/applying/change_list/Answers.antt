@@ -1,7 +1,7 @@
 use Rattle.std.proofs.Common.{ap, sym, ◌∙◌, set, arith}
 use Rattle.std.proofs.lemmas.List.Edits.{map_over_more}
 use Rattle.ivf_graph.specs.Effect.{changed_part, row_change}
-use Rattle.ivf_graph.proofs.changes.change_list.Goals as goal
+use Rattle.ivf_graph.proofs.applying.change_list.Goals as goal
 
 pub loop-part-preserved : goal.loop-part-preserved
 loop-part-preserved c =

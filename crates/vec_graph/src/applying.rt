@@ -31,6 +31,7 @@ impl Graph {
     pub fn apply(&mut self, wrap: u8, event: &Event, alloc: Global) -> Result<(), AllocError>
         ensures { OnOk result (self.new ≡ effect wrap event.now self.old) }
     {
+        // One arm for each kind of event.
         match event {
             Event::Put {
                 at,
@@ -85,7 +86,15 @@ impl Graph {
 
     fn put(&mut self, new: NewNode, alloc: Global) -> Result<(), AllocError>
         ensures { let n = new.entry in
-            OnOk result (self.new ≡ with_new self.old n.at n.list_at n.version n.level n.id n.bits.now n.lists.now) }
+            OnOk result (self.new ≡ with_new self.old (record {
+              at = n.at;
+              list_at = n.list_at;
+              version = n.version;
+              level = n.level;
+              id = n.id;
+              bits = n.bits.now;
+              lists = n.lists.now;
+            })) }
     {
         let bits = new.bits.copied()?;
         let slots = new.lists.try_clone(alloc)?;

@@ -1,7 +1,7 @@
 use Rattle.std.proofs.Common.{◌≡◌, ◌+◌, ◌-◌, List, ap, sym, ◌∙◌, remove, arith}
 use Rattle.ivf_graph.specs.Graph.{Row}
 use Rattle.ivf_graph.proofs.FromTheEnd.{looked_at, stays, goes}
-use Rattle.ivf_graph.proofs.changes.drop_rows.Goals as goal
+use Rattle.ivf_graph.proofs.applying.drop_rows.Goals as goal
 
 pub loop-at-preserved-then-is_named : goal.loop-at-preserved-then-is_named
 loop-at-preserved-then-is_named c =

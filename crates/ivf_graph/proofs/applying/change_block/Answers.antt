@@ -1,7 +1,7 @@
 use Rattle.std.proofs.Common.{ap, sym, ◌∙◌, set, arith}
 use Rattle.std.proofs.lemmas.List.Edits.{map_over_more}
 use Rattle.ivf_graph.specs.Effect.{with_rows, row_change}
-use Rattle.ivf_graph.proofs.changes.change_block.Goals as goal
+use Rattle.ivf_graph.proofs.applying.change_block.Goals as goal
 
 pub loop-list-preserved : goal.loop-list-preserved
 loop-list-preserved c =
