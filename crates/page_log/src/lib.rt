@@ -17,4 +17,6 @@ pub use opening::{ReadLog, read_all};
 pub use opening_fault::OpenFault;
 
 #[cfg(test)]
+mod opening_tests;
+#[cfg(test)]
 mod tests;
