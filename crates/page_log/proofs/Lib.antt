@@ -1,3 +1,5 @@
 pub mod EventRuns
 pub mod Fronts
+pub mod HeadParts
+pub mod ImageRuns
 pub mod Runs

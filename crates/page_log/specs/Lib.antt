@@ -1,3 +1,6 @@
 pub mod Batches
 pub mod Epoch
+pub mod ImageSteps
+pub mod OpenCauses
+pub mod Opening
 pub mod Steps
