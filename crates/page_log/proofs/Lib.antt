@@ -1,3 +1,9 @@
 pub mod EventRuns
 pub mod Fronts
 pub mod Runs
+pub mod SpelledEvents
+pub mod Seals
+pub mod Holding
+pub mod Coming
+pub mod Staging
+pub mod BatchBytes

@@ -2,13 +2,21 @@
 #![tactic(auto)]
 
 mod batches;
+mod bodies;
 mod events;
 mod finding;
+mod flushing;
 mod head;
 mod limits;
+mod log;
+mod log_fault;
 mod log_reading;
+mod pending;
 
 pub use head::Head;
+pub use log::Log;
+pub use log_fault::LogFault;
+pub use pending::Pending;
 
 #[cfg(test)]
 mod tests;
