@@ -19,10 +19,5 @@ payload_body (b ∷ bytes) =
     let size : length (body_of all) - 5 ≡ length all = omega (arith, body_length all (omega arith)) in
     ap (λ (n : ℕ). take n (all ++ 0 ∷ [])) size ∙ take_at all (0 ∷ []) (length all) refl
 
--- the length goes before the events, and a closed seal behind them
-pub closed_body : (old new events : List ℕ) (len : ℕ) → events ≡ drop 4 old → 5 ≤ length old → len ≡ length old - 4 → new ≡ to_le_bytes w32 len ++ drop 4 (old ++ 0 ∷ []) → new ≡ body_of events
-closed_body old new events len are long len_is is =
-    let size : length events ≡ len = ap length are ∙ length-drop 4 old ∙ sym len_is in
-    is ∙ ap (λ (l : List ℕ). to_le_bytes w32 len ++ l) (drop-append-le 4 old (0 ∷ []) (omega (arith, long)))
-    ∙ (λ i. to_le_bytes w32 (sym size i) ++ (sym are i ++ 0 ∷ []))
-    ∙ sym (body_some events (omega (arith, size, len_is, long)))
+pub whole_body : (bytes events : List ℕ) → bytes ≡ body_of events → bytes ≡ body_of (payload bytes)
+whole_body bytes events is = is ∙ ap body_of (sym (payload_body events) ∙ ap payload (sym is))

@@ -7,3 +7,4 @@ pub mod Holding
 pub mod Coming
 pub mod Staging
 pub mod BatchBytes
+pub mod LogSteps

@@ -29,6 +29,14 @@ behind pending = pending.at + length pending.bytes.items
 abbrev pub Reaches : Pending → ℕ → Type 0
 Reaches pending len = (pending.at ≤ len) × (pending.fixed ≡ true → behind pending ≤ len)
 
+-- the same of a log
+abbrev pub ReachesTo : Unsettled → ℕ → Type 0
+ReachesTo log len = (log.at ≤ len) × (log.fixed ≡ true → log.at + length log.body ≤ len)
+
+-- nothing is to be written
+abbrev pub IsAllOut : Unsettled → Type 0
+IsAllOut log = (log.body ≡ []) × (log.newer.bytes ≡ [])
+
 -- once it is settled
 abbrev pub past : Pending → Newer → Unsettled
 past pending newer = record { area = pending.area; at = behind pending; bare = false; fixed = false; body = []; events = 0; newer = newer }

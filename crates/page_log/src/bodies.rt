@@ -1,6 +1,6 @@
 //! The bytes of a batch behind its seal: four of the length of its events, the events, and a closed seal.
 
-ghost use Rattle.std.specs.Prelude.{◌≡◌, ◌+◌, ◌-◌, ◌<◌, ◌≤◌, ◌^◌, ◌++◌, [], length, take, drop, max, All, OnOk, OnErr, IsOk, vec_len, vec_capacity};
+ghost use Rattle.std.specs.Prelude.{◌≡◌, ◌+◌, ◌-◌, ◌<◌, ◌≤◌, ◌^◌, ◌++◌, [], length, take, drop, min, max, All, OnOk, OnErr, IsOk, vec_len, vec_capacity};
 ghost use Rattle.vec_event.specs.Spelling.{spelling, IsTyped, IsWritable, RisesFrom};
 ghost use Rattle.page_log.specs.Going.{body_of, payload};
 ghost use Rattle.page_log.specs.declared.limits.TheConstants.{LONGEST};
@@ -110,10 +110,13 @@ pub fn put_event(fresh: &mut Vec<u8>, event: &Event, size: u64) -> Result<(), Al
 }
 
 /// The length of the events behind the first four bytes goes there, and a closed seal behind them.
+#[tactic(auto, using(crate::proofs::BatchBytes::whole_body))]
 pub fn close(bytes: &mut Vec<u8>) -> Result<(), AllocError>
     requires some { 5 ≤ length bytes.old.items }
     requires few { length bytes.old.items < 2 ^ 32 }
     ensures ok { OnOk result (bytes.new.items ≡ body_of (drop 4 bytes.old.items)) }
+    ensures len { OnOk result (length bytes.new.items ≡ length bytes.old.items + 1) }
+    ensures whole { OnOk result (bytes.new.items ≡ body_of (payload bytes.new.items)) }
     ensures err { OnErr result (bytes.new.items ≡ bytes.old.items) }
     ensures free { vec_len bytes.old + 1 ≤ vec_capacity bytes.old → IsOk result }
     ensures capacity { vec_capacity bytes.old ≤ vec_capacity bytes.new }
@@ -138,6 +141,8 @@ pub fn join(bytes: &mut Vec<u8>, fresh: &[u8]) -> Result<(), AllocError>
     requires headed { 1 ≤ length fresh.now → 5 ≤ length fresh.now }
     requires few { length bytes.old.items + length fresh.now < 2 ^ 32 }
     ensures ok { OnOk result (bytes.new.items ≡ body_of (payload bytes.old.items ++ drop 4 fresh.now)) }
+    ensures len { OnOk result (length bytes.new.items ≤ length bytes.old.items + length fresh.now + min 1 (length fresh.now)) }
+    ensures whole { bytes.new.items ≡ body_of (payload bytes.new.items) }
     ensures err { OnErr result (bytes.new.items ≡ bytes.old.items) }
 {
     if fresh.is_empty() {

@@ -13,6 +13,7 @@ mod log_fault;
 mod log_reading;
 mod pending;
 
+pub use flushing::flush_pending;
 pub use head::Head;
 pub use log::Log;
 pub use log_fault::LogFault;

@@ -4,13 +4,15 @@ ghost use Rattle.std.specs.Prelude.{◌≡◌, ◌+◌, ◌-◌, ◌*◌, ◌≤
 ghost use Rattle.page_log.specs.Bodies.{IsBack, bytes_back, events_back};
 ghost use Rattle.page_log.specs.declared.limits.TheConstants.{HEAD, MOST_USED, SPARE};
 
-use crate::bodies::{keep, put_event};
+use crate::bodies::{close, join, keep, put_event};
+use crate::flushing::flush_pending;
 use crate::limits::{HEAD, MOST_USED, SPARE};
 use crate::log_fault::LogFault;
 use crate::pending::Pending;
 use std::alloc::Global;
+use std::mem;
 use vec_event::{Event, event_size};
-use vec_outside::Area;
+use vec_outside::{Area, Disks};
 
 /// The log of an epoch: its end on the disks, and the events that are not yet there. They stand one after the other as they are
 /// to be written, behind four bytes for their length.
@@ -39,7 +41,7 @@ impl Log {
     ghost use Rattle.vec_event.specs.Spelling.{spelling, IsTyped, IsWritable};
     ghost use Rattle.page_log.specs.Going.{ComesFrom, SettlesAll};
     ghost use Rattle.page_log.specs.LogCauses.{IsMemory, IsDiskFault, IsAppendFault};
-    ghost use Rattle.page_log.specs.Parts.{area_of, at_end, unsettled, newer_of, with_event, out, taken, behind, IsOut};
+    ghost use Rattle.page_log.specs.Parts.{area_of, at_end, unsettled, newer_of, with_event, out, taken, behind, ReachesTo, IsAllOut, IsOut};
 
     /// The log of an epoch, in its area, which ends at a place and whose events take so much of the room. The area of an odd
     /// epoch is the first.
@@ -125,5 +127,139 @@ impl Log {
         self.count += 1;
         self.spare = self.spare.saturating_sub(1);
         Ok(())
+    }
+    /// Takes out the events that are not yet taken out, to be written to the disks: a fixed batch that was put back alone, and
+    /// else what was put back with all newer events. The spare stays. The only fault is `Memory`, and then the log is as before.
+    pub fn take(&mut self) -> Result<Pending, LogFault>
+        ensures taken { IfOk result (λ pending. out pending (newer_of self.new) ≡ taken (unsettled self.old)) }
+        ensures out { IfOk result (IsOut self.new) }
+        ensures err { OnErr result (unsettled self.new ≡ unsettled self.old) }
+        ensures memory { IfErr result IsMemory }
+        ensures spare { self.new.spare ≡ self.old.spare }
+        ensures epoch { self.new.epoch ≡ self.old.epoch }
+    {
+        match self.back.take() {
+            None => self.take_newer(),
+            Some(pending) => self.take_back(pending),
+        }
+    }
+
+    /// The newer events alone.
+    fn take_newer(&mut self) -> Result<Pending, LogFault>
+        requires { self.old.back ≡ None }
+        ensures taken { IfOk result (λ pending. out pending (newer_of self.new) ≡ taken (unsettled self.old)) }
+        ensures out { IfOk result (IsOut self.new) }
+        ensures err { OnErr result (unsettled self.new ≡ unsettled self.old) }
+        ensures memory { IfErr result IsMemory }
+        ensures spare { self.new.spare ≡ self.old.spare }
+        ensures epoch { self.new.epoch ≡ self.old.epoch }
+    {
+        let at = self.end;
+        if self.fresh.is_empty() {
+            return Ok(Pending {
+                bytes: Vec::new(self.alloc),
+                events: 0,
+                area: self.area,
+                at,
+                fixed: false,
+                bare: false,
+            });
+        }
+        let mut bytes = Vec::new(self.alloc);
+        bytes.reserve(self.spare as usize * SPARE)?;
+        close(&mut self.fresh)?;
+        mem::swap(&mut self.fresh, &mut bytes);
+        self.end += bytes.len() as u64;
+        Ok(Pending {
+            bytes,
+            events: mem::replace(&mut self.count, 0),
+            area: self.area,
+            at,
+            fixed: false,
+            bare: false,
+        })
+    }
+
+    /// A batch that was put back, joined with the newer events where it is not fixed.
+    fn take_back(&mut self, mut pending: Pending) -> Result<Pending, LogFault>
+        requires { IsOut self.old pending }
+        ensures taken { IfOk result (λ next. out next (newer_of self.new) ≡ taken (out pending (newer_of self.old))) }
+        ensures out { IfOk result (IsOut self.new) }
+        ensures err { OnErr result (unsettled self.new ≡ out pending (newer_of self.old)) }
+        ensures memory { IfErr result IsMemory }
+        ensures spare { self.new.spare ≡ self.old.spare }
+        ensures epoch { self.new.epoch ≡ self.old.epoch }
+    {
+        if pending.fixed {
+            return Ok(pending);
+        }
+        match join(&mut pending.bytes, &self.fresh) {
+            Ok(()) => {
+                self.end = pending.at + pending.bytes.len() as u64;
+                self.fresh.clear();
+                pending.events += mem::replace(&mut self.count, 0);
+                Ok(pending)
+            }
+            Err(_) => {
+                self.put_back(pending);
+                Err(LogFault::Memory)
+            }
+        }
+    }
+
+    /// Puts back a batch that was taken out and not settled. It takes no memory.
+    pub fn put_back(&mut self, pending: Pending)
+        requires { IsOut self.old pending }
+        ensures back { unsettled self.new ≡ out pending (newer_of self.old) }
+        ensures spare { self.new.spare ≡ self.old.spare }
+        ensures epoch { self.new.epoch ≡ self.old.epoch }
+    {
+        self.back = Some(pending);
+    }
+    /// Settles all events. The area reaches to the log's end, and behind a batch that is fixed. With nothing to be written no
+    /// call of the disks is made.
+    ///
+    /// At `Ok` all events are settled. However it ends, every image of every moment has the events that were settled before, and
+    /// of the others the first so many, in order. `Disk` comes only where the disks' count of faults rose, and tells it; after it
+    /// and after want of memory a later flush goes on from there.
+    pub fn flush<D: Disks>(&mut self, disks: &mut D) -> Result<(), LogFault>
+        requires reach { D.told → ReachesTo (unsettled self.old) (length ((D.disk disks.old).seen (unsettled self.old).area)) }
+        ensures from { ComesFrom (unsettled self.old) (D.disk disks.old) (unsettled self.new) (D.disk disks.new) [] }
+        ensures all { OnOk result (SettlesAll (unsettled self.old) (D.disk disks.old) (unsettled self.new) (D.disk disks.new)) }
+        ensures none { OnOk result (IsAllOut (unsettled self.new)) }
+        ensures reach { D.told → ReachesTo (unsettled self.new) (length ((D.disk disks.new).seen (unsettled self.new).area)) }
+        ensures later { D.count disks.old ≤ D.count disks.new }
+        ensures fault { IfErr result (IsDiskFault (D.count disks.old) (D.count disks.new)) }
+        ensures spare { self.new.spare ≡ self.old.spare }
+        ensures epoch { self.new.epoch ≡ self.old.epoch }
+    {
+        self.flush_part(disks)?;
+        if self.count == 0 {
+            return Ok(());
+        }
+        self.flush_part(disks)
+    }
+
+    /// Settles a fixed batch that was put back, or else all events.
+    fn flush_part<D: Disks>(&mut self, disks: &mut D) -> Result<(), LogFault>
+        requires reach { D.told → ReachesTo (unsettled self.old) (length ((D.disk disks.old).seen (unsettled self.old).area)) }
+        ensures from { ComesFrom (unsettled self.old) (D.disk disks.old) (unsettled self.new) (D.disk disks.new) [] }
+        ensures none { OnOk result ((unsettled self.new).body ≡ []) }
+        ensures open { OnOk result ((unsettled self.new).fixed ≡ false) }
+        ensures all { (unsettled self.old).fixed ≡ false → OnOk result ((newer_of self.new).bytes ≡ []) }
+        ensures reach { D.told → ReachesTo (unsettled self.new) (length ((D.disk disks.new).seen (unsettled self.new).area)) }
+        ensures later { D.count disks.old ≤ D.count disks.new }
+        ensures fault { IfErr result (IsDiskFault (D.count disks.old) (D.count disks.new)) }
+        ensures spare { self.new.spare ≡ self.old.spare }
+        ensures epoch { self.new.epoch ≡ self.old.epoch }
+    {
+        let mut pending = self.take()?;
+        match flush_pending(&mut pending, disks) {
+            Ok(()) => Ok(()),
+            Err(fault) => {
+                self.put_back(pending);
+                Err(fault)
+            }
+        }
     }
 }
