@@ -18,7 +18,7 @@ take_parts (suc a) b (x ∷ xs) = let e : suc a + b ≡ suc (a + b) = omega arit
 
 -- ---- between what is settled and all
 
-between_more : (base : List ℕ) (settled some more : List Event) (bytes : List ℕ) → IsBetween base settled some bytes → IsBetween base settled (some ++ more) bytes
+pub between_more : (base : List ℕ) (settled some more : List Event) (bytes : List ℕ) → IsBetween base settled some bytes → IsBetween base settled (some ++ more) bytes
 between_more base settled some more bytes between = (
   between.0,
   omega (arith, between.1, length-append some more),

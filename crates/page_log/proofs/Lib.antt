@@ -8,3 +8,4 @@ pub mod Coming
 pub mod Staging
 pub mod BatchBytes
 pub mod LogSteps
+pub mod Opened

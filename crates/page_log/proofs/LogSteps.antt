@@ -1,17 +1,17 @@
 -- A batch that is taken out of a log, and what stands of both once it is settled.
-use Rattle.std.proofs.Common.{◌≡◌, Bool, true, false, ℕ, ◌+◌, ◌<◌, ◌≤◌, List, [], ◌∷◌, ◌++◌, None, length, refl, sym, ◌∙◌, ap, subst, arith, append-nil, append_assoc, length-append}
+use Rattle.std.proofs.Common.{◌≡◌, Bool, true, false, ℕ, zero, suc, ◌+◌, ◌<◌, ◌≤◌, List, [], ◌∷◌, ◌++◌, None, length, take, refl, sym, ◌∙◌, ap, subst, arith, append-nil, append_assoc, length-append}
 use Rattle.vec_history.specs.declared.event.Event.{Event}
 use Rattle.vec_event.specs.Spelling.{spelling, IsTyped, IsWritable}
 use Rattle.vec_outside.specs.Disk.{Disk, Image, IsImage}
 use Rattle.vec_outside.proofs.Moments.{started}
-use Rattle.page_log.specs.Going.{AreWritable, spelled, room, body_of, payload, IsBetween, IsSealed, Newer, Unsettled, IsGoing, GoesOn, ComesFrom}
+use Rattle.page_log.specs.Going.{AreWritable, spelled, room, body_of, payload, Holds, IsBetween, IsSealed, Newer, Unsettled, IsGoing, GoesOn, ComesFrom}
 use Rattle.page_log.specs.Parts.{out, past, behind, newer_of, with_back, unsettled, with_event, taken_if, taken, IsOut, IsSameBatch}
 use Rattle.page_log.specs.declared.log.Log.{Log}
 use Rattle.page_log.specs.declared.pending.Pending.{Pending}
 use Rattle.page_log.proofs.Fronts.{read_none}
 use Rattle.page_log.proofs.SpelledEvents.{spelled_append, room_append, writable_append}
 use Rattle.page_log.proofs.BatchBytes.{payload_body}
-use Rattle.page_log.proofs.Coming.{goes_still, comes_by, comes_reading, between_now}
+use Rattle.page_log.proofs.Coming.{goes_still, comes_by, comes_reading, between_now, between_more}
 
 -- nothing is done
 pub comes_same : (log log' : Unsettled) (disk : Disk) → ((image : Image) → disk.left_since disk.moment image → IsImage disk image) → log' ≡ log → ComesFrom log disk log' disk []
@@ -84,4 +84,24 @@ event_going base log event disk settled pending typed writable fits g = record {
   used = omega (arith, g.used, room_append pending (event ∷ []));
   fits = fits;
   images = g.images;
+}
+
+-- with nothing pending, just what is settled
+pub holds_all : (base : List ℕ) (settled : List Event) (bytes : List ℕ) → IsBetween base settled [] bytes → Holds base settled bytes
+holds_all base settled bytes between =
+    let none : take between.0 [] ≡ [] = nothing between.0 in
+    subst (λ (l : List Event). Holds base l bytes) (ap (λ (l : List Event). settled ++ l) none ∙ append-nil settled) between.2
+  where
+    nothing : (n : ℕ) → ◌≡◌ {A = List Event} (take n []) []
+    nothing zero = refl
+    nothing (suc n) = refl
+
+pub comes_with_event : (log : Unsettled) (event : Event) (disk : Disk) → ((image : Image) → disk.left_since disk.moment image → IsImage disk image) → IsTyped event → IsWritable event
+    → log.newer.used + (length (spelling event) + 5) ≤ 268435456 → ComesFrom log disk (with_event log event) disk (event ∷ [])
+comes_with_event log event disk only_now typed writable fits = record {
+  area = refl;
+  goes_on = λ base settled pending g.
+      goes_still base log (with_event log event) disk disk settled (pending ++ event ∷ []) (event_going base log event disk settled pending typed writable fits g)
+      (started disk (λ image. IsBetween base settled (pending ++ event ∷ []) (image log.area)) only_now
+      (λ image is. between_more base settled pending (event ∷ []) (image log.area) (between_now base log disk settled pending g image is)));
 }

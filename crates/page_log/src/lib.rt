@@ -6,6 +6,7 @@ mod bodies;
 mod events;
 mod finding;
 mod flushing;
+mod going_law;
 mod head;
 mod limits;
 mod log;
@@ -14,6 +15,7 @@ mod log_reading;
 mod pending;
 
 pub use flushing::flush_pending;
+pub use going_law::{law_coming, law_going};
 pub use head::Head;
 pub use log::Log;
 pub use log_fault::LogFault;
