@@ -5,10 +5,12 @@ use Rattle.vec_history.specs.declared.event.Event.{Event}
 use Rattle.vec_outside.specs.declared.disks.Area.{Area}
 use Rattle.vec_outside.specs.Disk.{Disk, Image, IsImage, LeavesOnly}
 use Rattle.vec_outside.proofs.Moments.{started, weakened, joined}
-use Rattle.page_log.specs.Going.{AreWritable, spelled, room, Holds, IsBetween, IsSealed, Unsettled, IsGoing, GoesOn, ComesFrom, SettlesAll, body_of}
+use Rattle.page_log.specs.Going.{AreWritable, spelled, room, Holds, IsBetween, IsSealed, Unsettled, IsGoing, GoesOn, KeepsOthers, ComesFrom, SettlesAll, body_of}
 use Rattle.page_log.specs.Steps.{OnlyReads}
 use Rattle.page_log.proofs.SpelledEvents.{writable_front, writable_rest, room_append, none_spelled}
+use Rattle.page_log.proofs.Fronts.{read_none}
 use Rattle.page_log.proofs.Holding.{holds_between, body_length}
+use Rattle.page_log.proofs.OtherAreas.{keeps_reading, keeps_on}
 
 take_parts : (a b : ℕ) (xs : List Event) → take (a + b) xs ≡ take a xs ++ take b (drop a xs)
 take_parts zero b xs = let e : zero + b ≡ b = omega arith in ap (λ (n : ℕ). take n xs) e
@@ -90,16 +92,17 @@ goes_still base log log' old new settled pending going moments = record {
 }
 
 -- steps that add nothing
-pub comes_by : (log log' : Unsettled) (old new : Disk) → log'.area ≡ log.area
+pub comes_by : (log log' : Unsettled) (old new : Disk) → log'.area ≡ log.area → KeepsOthers log.area old new
     → ((base : List ℕ) (settled pending : List Event) → IsGoing base log old settled pending → GoesOn base log old log' new settled pending) → ComesFrom log old log' new []
-comes_by log log' old new same step = record {
+comes_by log log' old new same others step = record {
   area = same;
+  others = others;
   goes_on = λ base settled pending going. subst (λ (l : List Event). GoesOn base log old log' new settled l) (sym (append-nil pending)) (step base settled pending going);
 }
 
 -- reads
 pub comes_reading : (log : Unsettled) (old new : Disk) → OnlyReads old new → ComesFrom log old log new []
-comes_reading log old new only = comes_by log log old new refl (λ base settled pending going.
+comes_reading log old new only = comes_by log log old new refl (keeps_reading log.area old new only) (λ base settled pending going.
     goes_still base log log old new settled pending
     (still base log old settled pending going log.fixed log.bare new (λ bytes left. going.images bytes (only.kept.leaves log.area bytes left)))
     (weakened old new (IsImage old) (λ image. IsBetween base settled pending (image log.area)) only.moments (between_now base log old settled pending going)))
@@ -131,6 +134,7 @@ goes_further base log log' log'' old mid new settled all more same first second 
 pub comes_further : (log log' log'' : Unsettled) (old mid new : Disk) (added more : List Event) → ComesFrom log old log' mid added → ComesFrom log' mid log'' new more → ComesFrom log old log'' new (added ++ more)
 comes_further log log' log'' old mid new added more first second = record {
   area = second.area ∙ first.area;
+  others = keeps_on log.area old mid new first.others (subst (λ (area : Area). KeepsOthers area mid new) first.area second.others);
   goes_on = λ base settled pending going.
       let one = first.goes_on base settled pending going in
       subst (λ (l : List Event). GoesOn base log old log'' new settled l) (append_assoc pending added more)
@@ -193,7 +197,7 @@ pub comes_empty : (log : Unsettled) (disk : Disk) → ((image : Image) → disk.
     → ComesFrom log disk (record log { at = log.at + length log.body; bare = false; fixed = false; body = []; events = 0 }) disk []
 comes_empty log disk only_now none =
     let log' : Unsettled = record log { at = log.at + length log.body; bare = false; fixed = false; body = []; events = 0 } in
-    comes_by log log' disk disk refl (λ base settled pending going.
+    comes_by log log' disk disk refl (keeps_reading log.area disk disk (read_none disk only_now)) (λ base settled pending going.
     goes_still base log log' disk disk settled pending (goes_empty base log disk settled pending none going)
     (started disk (λ image. IsBetween base settled pending (image log.area)) only_now (between_now base log disk settled pending going)))
 

@@ -9,3 +9,4 @@ pub mod Staging
 pub mod BatchBytes
 pub mod LogSteps
 pub mod Opened
+pub mod OtherAreas

@@ -11,6 +11,7 @@ use Rattle.page_log.specs.declared.pending.Pending.{Pending}
 use Rattle.page_log.proofs.Fronts.{read_none}
 use Rattle.page_log.proofs.SpelledEvents.{spelled_append, room_append, writable_append}
 use Rattle.page_log.proofs.BatchBytes.{payload_body}
+use Rattle.page_log.proofs.OtherAreas.{keeps_reading}
 use Rattle.page_log.proofs.Coming.{goes_still, comes_by, comes_reading, between_now, between_more}
 
 -- nothing is done
@@ -54,7 +55,7 @@ same_area false log = refl
 
 pub comes_taken : (log log' : Unsettled) (disk : Disk) → ((image : Image) → disk.left_since disk.moment image → IsImage disk image) → log' ≡ taken log → ComesFrom log disk log' disk []
 comes_taken log log' disk only_now is = subst (λ (l : Unsettled). ComesFrom log disk l disk []) (sym is)
-    (comes_by log (taken log) disk disk (same_area log.fixed log) (λ base settled pending g.
+    (comes_by log (taken log) disk disk (same_area log.fixed log) (keeps_reading log.area disk disk (read_none disk only_now)) (λ base settled pending g.
     goes_still base log (taken log) disk disk settled pending (taken_going base log disk settled pending g)
     (started disk (λ image. IsBetween base settled pending (image log.area)) only_now (between_now base log disk settled pending g))))
 
@@ -100,6 +101,7 @@ pub comes_with_event : (log : Unsettled) (event : Event) (disk : Disk) → ((ima
     → log.newer.used + (length (spelling event) + 5) ≤ 268435456 → ComesFrom log disk (with_event log event) disk (event ∷ [])
 comes_with_event log event disk only_now typed writable fits = record {
   area = refl;
+  others = keeps_reading log.area disk disk (read_none disk only_now);
   goes_on = λ base settled pending g.
       goes_still base log (with_event log event) disk disk settled (pending ++ event ∷ []) (event_going base log event disk settled pending typed writable fits g)
       (started disk (λ image. IsBetween base settled (pending ++ event ∷ []) (image log.area)) only_now

@@ -6,6 +6,7 @@ use Rattle.vec_outside.specs.Disk.{Disk, Image, IsImage, IsTorn, IsTornImage, Is
 use Rattle.vec_outside.proofs.Moments.{weakened}
 use Rattle.page_log.specs.Going.{AreWritable, spelled, room, body_of, IsBetween, LeadsTo, IsSealed, Unsettled, IsGoing, GoesOn, ComesFrom}
 use Rattle.page_log.proofs.SpelledEvents.{writable_rest, room_append}
+use Rattle.page_log.proofs.OtherAreas.{keeps_writing}
 use Rattle.page_log.proofs.Seals.{torn_behind, torn_seal, written_behind, written_seal}
 use Rattle.page_log.proofs.Holding.{with_batch, with_batch_length, leads_on, opened, some_in_body, body_length}
 use Rattle.page_log.proofs.Coming.{batch_writable, batch_fits, between_of, still, goes_still, comes_by}
@@ -71,7 +72,7 @@ end_none log disk seen shut base settled pending g bytes left =
 pub end_written : (log : Unsettled) (bare : Bool) (n : ℕ) (old new : Disk)
     → ((base : List ℕ) (settled pending : List Event) → IsGoing base log old settled pending → (bytes : List ℕ) → old.leaves log.area bytes → ⊥)
     → IsWritten log.area log.at n old new → LeavesOnly old new (IsTornImage log.area log.at n old) → ComesFrom log old (record log { bare = bare }) new []
-end_written log bare n old new none written moments = comes_by log (record log { bare = bare }) old new refl (λ base settled pending going.
+end_written log bare n old new none written moments = comes_by log (record log { bare = bare }) old new refl (keeps_writing log.area log.at n old new written moments) (λ base settled pending going.
     goes_still base log (record log { bare = bare }) old new settled pending
     (still base log old settled pending going log.fixed bare new (λ bytes left.
     let from = written.leaves bytes left in absurd (none base settled pending going from.0 from.1)))
@@ -91,16 +92,16 @@ module _ (log : Unsettled) (n : ℕ) (old new : Disk) (open_ : log.fixed ≡ fal
         (λ image torn. between_of base log old settled pending g false (image log.area) (behind_left torn.torn.0 (image log.area) torn.torn.1 torn.torn.2))
 
   pub body_begun : IsWritten log.area (log.at + 1) n old new → ComesFrom log old log new []
-  body_begun written = comes_by log log old new refl (λ base settled pending going.
+  body_begun written = comes_by log log old new refl (keeps_writing log.area (log.at + 1) n old new written moments) (λ base settled pending going.
       goes_still base log log old new settled pending
       (still base log old settled pending going log.fixed log.bare new (λ bytes left.
       let from = written.leaves bytes left in
       ((going.images from.0 from.1).0, sealed_as going.front log.body bytes false log.fixed (sym open_) (behind_left base settled pending going from.0 bytes from.1 from.2))))
       (behind_moments base settled pending going))
 
-  pub body_written : 0 < length log.body → ((bytes : List ℕ) → new.leaves log.area bytes → (was : List ℕ) × old.leaves log.area was × (bytes ≡ spliced was (log.at + 1) log.body))
+  pub body_written : IsWritten log.area (log.at + 1) n old new → 0 < length log.body → ((bytes : List ℕ) → new.leaves log.area bytes → (was : List ℕ) × old.leaves log.area was × (bytes ≡ spliced was (log.at + 1) log.body))
       → ComesFrom log old (record log { fixed = true }) new []
-  body_written some durable = comes_by log (record log { fixed = true }) old new refl (λ base settled pending going.
+  body_written written some durable = comes_by log (record log { fixed = true }) old new refl (keeps_writing log.area (log.at + 1) n old new written moments) (λ base settled pending going.
       goes_still base log (record log { fixed = true }) old new settled pending
       (still base log old settled pending going true log.bare new (λ bytes left.
       let from = durable bytes left in
@@ -121,7 +122,7 @@ module _ (log : Unsettled) (old new : Disk) (fixed : log.fixed ≡ true) (moment
         (λ image torn. between_of base log old settled pending g true (image log.area) (seal_left torn.torn.0 (image log.area) torn.torn.1 torn.torn.2))
 
   pub seal_begun : IsWritten log.area log.at 1 old new → ComesFrom log old log new []
-  seal_begun written = comes_by log log old new refl (λ base settled pending going.
+  seal_begun written = comes_by log log old new refl (keeps_writing log.area log.at 1 old new written moments) (λ base settled pending going.
       goes_still base log log old new settled pending
       (still base log old settled pending going log.fixed log.bare new (λ bytes left.
       let from = written.leaves bytes left in
@@ -129,9 +130,9 @@ module _ (log : Unsettled) (old new : Disk) (fixed : log.fixed ≡ true) (moment
       (seal_moments base settled pending going))
 
   -- the batch is settled
-  pub seal_written : 0 < length log.body → ((bytes : List ℕ) → new.leaves log.area bytes → (was : List ℕ) × old.leaves log.area was × (bytes ≡ spliced was log.at (165 ∷ [])))
+  pub seal_written : IsWritten log.area log.at 1 old new → 0 < length log.body → ((bytes : List ℕ) → new.leaves log.area bytes → (was : List ℕ) × old.leaves log.area was × (bytes ≡ spliced was log.at (165 ∷ [])))
       → ComesFrom log old (record log { at = log.at + length log.body; bare = false; fixed = false; body = []; events = 0 }) new []
-  seal_written some durable = comes_by log (record log { at = log.at + length log.body; bare = false; fixed = false; body = []; events = 0 }) old new refl (λ base settled pending g.
+  seal_written written some durable = comes_by log (record log { at = log.at + length log.body; bare = false; fixed = false; body = []; events = 0 }) old new refl (keeps_writing log.area log.at 1 old new written moments) (λ base settled pending g.
       let log' : Unsettled = record log { at = log.at + length log.body; bare = false; fixed = false; body = []; events = 0 } in
       let all : AreWritable (g.batch ++ g.fresh) = subst AreWritable g.pending_are g.writable in
       let some_events : 0 < length (spelled g.batch) = some_in_body (spelled g.batch) (subst (λ (b : List ℕ). 0 < length b) g.body some) in

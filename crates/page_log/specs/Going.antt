@@ -117,8 +117,15 @@ pub record GoesOn (base : List ℕ) (old : Unsettled) (before : Disk) (new : Uns
   pub going : IsGoing base new after (settled ++ take count pending) (drop count pending)
   pub moments : LeavesOnly before after (λ image. IsBetween base settled pending (image old.area))
 
+-- The other areas are read as before, and no image of any moment has more of them.
+pub record KeepsOthers (area : Area) (before after : Disk) : Type 0 where
+  pub seen : (other : Area) → other ≢ area → after.seen other ≡ before.seen other
+  pub leaves : (other : Area) (bytes : List ℕ) → other ≢ area → after.leaves other bytes → before.leaves other bytes
+  pub moments : LeavesOnly before after (λ image. (other : Area) → other ≢ area → before.leaves other (image other))
+
 pub record ComesFrom (old : Unsettled) (before : Disk) (new : Unsettled) (after : Disk) (added : List Event) : Type 0 where
   pub area : new.area ≡ old.area
+  pub others : KeepsOthers old.area before after
   pub goes_on : (base : List ℕ) (settled pending : List Event) → IsGoing base old before settled pending
       → GoesOn base old before new after settled (pending ++ added)
 

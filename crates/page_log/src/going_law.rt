@@ -7,12 +7,14 @@ ghost use Rattle.vec_outside.specs.Disk.{Image, IsImage, IsDurable};
 ghost use Rattle.vec_outside.specs.declared.disks.Area.{Area};
 ghost use Rattle.page_log.specs.Batches.{Placed, IsLog};
 ghost use Rattle.page_log.specs.Going.{Unsettled, IsGoing, IsBetween, Holds, ComesFrom};
-ghost use Rattle.page_log.specs.Parts.{with_event, taken, at_end};
+ghost use Rattle.page_log.specs.Parts.{with_event, taken, at_end, past, newer_of, unsettled, IsOut, IsSameBatch};
+ghost use Rattle.page_log.specs.declared.log.Log.{Log};
+ghost use Rattle.page_log.specs.declared.pending.Pending.{Pending};
 ghost use Rattle.page_log.specs.declared.limits.TheConstants.{MOST_USED};
 
 use vec_outside::Disks;
 
-/// A law, and no work. Of a log that goes on with its disks, every image holds what is settled and of what is pending the first
+/// A law, and no work. Where a batch is out of a log, what is left once it is settled is the log. Of a log that goes on with its disks, every image holds what is settled and of what is pending the first
 /// so many events; with nothing pending it holds just what is settled. The log goes on where an event is added that has room,
 /// which is then the last that is pending, and where a batch is taken out. A log that was read from durable bytes, to its end at
 /// a closed seal, goes on with the events that were read settled and nothing pending.
@@ -29,6 +31,8 @@ pub fn law_going<D: Disks>()
         → IsGoing base (with_event log event) (D.disk disks) settled (pending ++ event ∷ []) }
     ensures batch { (disks : D) (base : List ℕ) (log : Unsettled) (settled pending : List Event)
         → IsGoing base log (D.disk disks) settled pending → IsGoing base (taken log) (D.disk disks) settled pending }
+    ensures past { (log : Log) (pending after : Pending) → IsOut log pending → IsSameBatch pending after
+        → past after (newer_of log) ≡ unsettled log }
     ensures opened { (disks : D) (base : List ℕ) (area : Area) (placed : List Placed) (end used : ℕ) → IsDurable area (D.disk disks)
         → take (length base) ((D.disk disks).seen area) ≡ base
         → IsLog ((D.disk disks).seen area) (length base) placed end used None

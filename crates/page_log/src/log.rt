@@ -228,6 +228,7 @@ impl Log {
         ensures all { OnOk result (SettlesAll (unsettled self.old) (D.disk disks.old) (unsettled self.new) (D.disk disks.new)) }
         ensures none { OnOk result (IsAllOut (unsettled self.new)) }
         ensures reach { D.told → ReachesTo (unsettled self.new) (length ((D.disk disks.new).seen (unsettled self.new).area)) }
+        ensures nothing { IsAllOut (unsettled self.old) → disks.new ≡ disks.old }
         ensures later { D.count disks.old ≤ D.count disks.new }
         ensures fault { IfErr result (IsDiskFault (D.count disks.old) (D.count disks.new)) }
         ensures spare { self.new.spare ≡ self.old.spare }
@@ -245,9 +246,11 @@ impl Log {
         requires reach { D.told → ReachesTo (unsettled self.old) (length ((D.disk disks.old).seen (unsettled self.old).area)) }
         ensures from { ComesFrom (unsettled self.old) (D.disk disks.old) (unsettled self.new) (D.disk disks.new) [] }
         ensures none { OnOk result ((unsettled self.new).body ≡ []) }
+        ensures still { IsAllOut (unsettled self.old) → OnOk result (self.new.count ≡ 0) }
         ensures open { OnOk result ((unsettled self.new).fixed ≡ false) }
         ensures all { (unsettled self.old).fixed ≡ false → OnOk result ((newer_of self.new).bytes ≡ []) }
         ensures reach { D.told → ReachesTo (unsettled self.new) (length ((D.disk disks.new).seen (unsettled self.new).area)) }
+        ensures nothing { IsAllOut (unsettled self.old) → disks.new ≡ disks.old }
         ensures later { D.count disks.old ≤ D.count disks.new }
         ensures fault { IfErr result (IsDiskFault (D.count disks.old) (D.count disks.new)) }
         ensures spare { self.new.spare ≡ self.old.spare }

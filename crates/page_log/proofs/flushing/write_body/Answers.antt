@@ -14,7 +14,7 @@ returns-clause-from g c newer =
     let log = out c.args.pending.now newer in
     let old = g.D.Disks.disk c.args.disks.now in
     let new = g.D.Disks.disk c.write_synced.new.disks in
-    body_written log _ old new c.requires.open c.write_synced.ensures.moments c.requires.some (λ bytes left. (
+    body_written log _ old new c.requires.open c.write_synced.ensures.moments c.write_synced.ensures.written c.requires.some (λ bytes left. (
       old.seen log.area,
       g.met.D.Disks.seen_leaves c.args.disks.now log.area (g.met.D.Disks.leaves_told c.write_synced.new.disks log.area bytes left),
       c.in_ok-write_synced.ensures.durable bytes left ∙ ap (λ (l : List ℕ). spliced (old.seen log.area) (log.at + 1) l) c.deref.ensures.value,

@@ -17,7 +17,7 @@ returns-clause-ok g c newer =
     let log = out c.args.pending.now newer in
     let old = g.D.Disks.disk c.args.disks.now in
     let new = g.D.Disks.disk c.write_synced.new.disks in
-    on_ok_weaker c.write_synced.result (λ durable. seal_written log old new c.requires.fixed c.write_synced.ensures.moments c.requires.some (λ bytes left. (
+    on_ok_weaker c.write_synced.result (λ durable. seal_written log old new c.requires.fixed c.write_synced.ensures.moments c.write_synced.ensures.written c.requires.some (λ bytes left. (
       old.seen log.area,
       g.met.D.Disks.seen_leaves c.args.disks.now log.area (g.met.D.Disks.leaves_told c.write_synced.new.disks log.area bytes left),
       durable bytes left,

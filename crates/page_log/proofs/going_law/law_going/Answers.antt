@@ -1,6 +1,6 @@
 use Rattle.std.proofs.Common.{[]}
 use Rattle.page_log.proofs.Coming.{between_now}
-use Rattle.page_log.proofs.LogSteps.{event_going, taken_going, holds_all}
+use Rattle.page_log.proofs.LogSteps.{event_going, taken_going, holds_all, past_is}
 use Rattle.page_log.proofs.Opened.{read_going}
 use Rattle.page_log.proofs.going_law.law_going.Goals as goal
 
@@ -17,6 +17,9 @@ returns-clause-event g c disks base log event settled pending typed writable fit
 
 pub returns-clause-batch : goal.returns-clause-batch
 returns-clause-batch g c disks base log settled pending going = taken_going base log (g.D.Disks.disk disks) settled pending going
+
+pub returns-clause-past : goal.returns-clause-past
+returns-clause-past g c log pending after is same = past_is log pending after is same
 
 pub returns-clause-opened : goal.returns-clause-opened
 returns-clause-opened g c disks base area placed end used durable base_is log within fits =
