@@ -3,3 +3,12 @@ pub mod Fronts
 pub mod HeadParts
 pub mod ImageRuns
 pub mod Runs
+pub mod SpelledEvents
+pub mod Seals
+pub mod Holding
+pub mod Coming
+pub mod Staging
+pub mod BatchBytes
+pub mod LogSteps
+pub mod Opened
+pub mod OtherAreas

@@ -4,3 +4,7 @@ pub mod ImageSteps
 pub mod OpenCauses
 pub mod Opening
 pub mod Steps
+pub mod Going
+pub mod Parts
+pub mod Bodies
+pub mod LogCauses

@@ -2,19 +2,30 @@
 #![tactic(auto)]
 
 mod batches;
+mod bodies;
 mod events;
 mod finding;
+mod flushing;
 mod front;
+mod going_law;
 mod head;
 mod images;
 mod limits;
+mod log;
+mod log_fault;
 mod log_reading;
 mod opening;
 mod opening_fault;
+mod pending;
 
+pub use flushing::flush_pending;
+pub use going_law::{law_coming, law_going};
 pub use head::Head;
+pub use log::Log;
+pub use log_fault::LogFault;
 pub use opening::{ReadLog, read_all};
 pub use opening_fault::OpenFault;
+pub use pending::Pending;
 
 #[cfg(test)]
 mod opening_tests;

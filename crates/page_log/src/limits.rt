@@ -17,3 +17,12 @@ pub const IMAGE: usize = 8_196;
 
 /// The most bytes that the events of an epoch may take, each with 5 bytes more than its own.
 pub const MOST_USED: u64 = 268_435_456;
+
+/// The byte that is written where a seal is closed.
+pub const CLOSED: u8 = 0;
+
+/// The bytes that are kept free for one event: those of the longest, of all offsets that a page may name, and a batch's length.
+pub const SPARE: usize = 131_086;
+
+/// The bytes of the longest event: of 65,535 offsets of two bytes, behind seven.
+pub const LONGEST: u64 = 131_077;

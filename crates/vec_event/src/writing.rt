@@ -22,6 +22,7 @@ pub fn write_event(event: &Event, into: &mut Vec<u8>) -> Result<(), EventFault>
     ensures err { OnErr result (into.new.items ≡ into.old.items) }
     ensures memory { IfErr result (λ fault. fault ≡ EventFault.Memory) }
     ensures room { vec_len into.old + length (spelling event.now) ≤ vec_capacity into.old → IsOk result }
+    ensures capacity { vec_capacity into.old ≤ vec_capacity into.new }
 {
     into.reserve(event_size(event) as usize)?;
     put_event(event, into);
@@ -32,7 +33,8 @@ pub fn write_event(event: &Event, into: &mut Vec<u8>) -> Result<(), EventFault>
 fn put_event(event: &Event, into: &mut Vec<u8>)
     requires writable { IsWritable event.now }
     requires room { vec_len into.old + length (spelling event.now) ≤ vec_capacity into.old }
-    ensures { into.new.items ≡ into.old.items ++ spelling event.now }
+    ensures items { into.new.items ≡ into.old.items ++ spelling event.now }
+    ensures capacity { vec_capacity into.old ≤ vec_capacity into.new }
 {
     match event {
         Event::Put {
@@ -102,8 +104,9 @@ struct NodeHead {
 fn put_node(into: &mut Vec<u8>, head: NodeHead, bits: &Bits, lists: &[Option<Tid>])
     requires few { length lists.now < 2 ^ 16 }
     requires room { vec_len into.old + (21 + length (bits_bytes bits.now) + length (lists_bytes lists.now)) ≤ vec_capacity into.old }
-    ensures { into.new.items ≡ into.old.items
+    ensures items { into.new.items ≡ into.old.items
         ++ spelling (Event.Put head.at head.list_at head.version head.level head.id bits.now lists.now) }
+    ensures capacity { vec_capacity into.old ≤ vec_capacity into.new }
 {
     put(into, &[1]);
     put(into, &head.at.spelled());
@@ -116,7 +119,8 @@ fn put_node(into: &mut Vec<u8>, head: NodeHead, bits: &Bits, lists: &[Option<Tid
 
 fn put_join(into: &mut Vec<u8>, at: Tid, version: u8, id: HeapId)
     requires { vec_len into.old + 14 ≤ vec_capacity into.old }
-    ensures { into.new.items ≡ into.old.items ++ spelling (Event.Join at version id) }
+    ensures items { into.new.items ≡ into.old.items ++ spelling (Event.Join at version id) }
+    ensures capacity { vec_capacity into.old ≤ vec_capacity into.new }
 {
     put(into, &[2]);
     put(into, &at.spelled());
@@ -126,7 +130,8 @@ fn put_join(into: &mut Vec<u8>, at: Tid, version: u8, id: HeapId)
 
 fn put_link(into: &mut Vec<u8>, at: Tid, list_at: Tid, version: u8, slot: u16, to: Tid)
     requires { vec_len into.old + 22 ≤ vec_capacity into.old }
-    ensures { into.new.items ≡ into.old.items ++ spelling (Event.Link at list_at version slot to) }
+    ensures items { into.new.items ≡ into.old.items ++ spelling (Event.Link at list_at version slot to) }
+    ensures capacity { vec_capacity into.old ≤ vec_capacity into.new }
 {
     put(into, &[3]);
     put(into, &at.spelled());
@@ -139,7 +144,8 @@ fn put_link(into: &mut Vec<u8>, at: Tid, list_at: Tid, version: u8, slot: u16, t
 fn put_relist(into: &mut Vec<u8>, at: Tid, list_at: Tid, version: u8, lists: &[Option<Tid>])
     requires few { length lists.now < 2 ^ 16 }
     requires room { vec_len into.old + (14 + length (lists_bytes lists.now)) ≤ vec_capacity into.old }
-    ensures { into.new.items ≡ into.old.items ++ spelling (Event.Relist at list_at version lists.now) }
+    ensures items { into.new.items ≡ into.old.items ++ spelling (Event.Relist at list_at version lists.now) }
+    ensures capacity { vec_capacity into.old ≤ vec_capacity into.new }
 {
     put(into, &[4]);
     put(into, &at.spelled());
@@ -150,7 +156,8 @@ fn put_relist(into: &mut Vec<u8>, at: Tid, list_at: Tid, version: u8, lists: &[O
 
 fn put_drop(into: &mut Vec<u8>, at: Tid, version: u8, gone: u16)
     requires { vec_len into.old + 10 ≤ vec_capacity into.old }
-    ensures { into.new.items ≡ into.old.items ++ spelling (Event.Drop at version gone) }
+    ensures items { into.new.items ≡ into.old.items ++ spelling (Event.Drop at version gone) }
+    ensures capacity { vec_capacity into.old ≤ vec_capacity into.new }
 {
     put(into, &[5]);
     put(into, &at.spelled());
@@ -160,7 +167,8 @@ fn put_drop(into: &mut Vec<u8>, at: Tid, version: u8, gone: u16)
 
 fn put_mark(into: &mut Vec<u8>, at: Tid, list_at: Tid, version: u8)
     requires { vec_len into.old + 14 ≤ vec_capacity into.old }
-    ensures { into.new.items ≡ into.old.items ++ spelling (Event.Mark at list_at version) }
+    ensures items { into.new.items ≡ into.old.items ++ spelling (Event.Mark at list_at version) }
+    ensures capacity { vec_capacity into.old ≤ vec_capacity into.new }
 {
     put(into, &[6]);
     put(into, &at.spelled());
@@ -170,7 +178,8 @@ fn put_mark(into: &mut Vec<u8>, at: Tid, list_at: Tid, version: u8)
 
 fn put_entry(into: &mut Vec<u8>, to: Option<Tid>, level: u8)
     requires { vec_len into.old + 8 ≤ vec_capacity into.old }
-    ensures { into.new.items ≡ into.old.items ++ spelling (Event.Entry to level) }
+    ensures items { into.new.items ≡ into.old.items ++ spelling (Event.Entry to level) }
+    ensures capacity { vec_capacity into.old ≤ vec_capacity into.new }
 {
     put(into, &[7]);
     put(into, &Tid::spelled_option(to));
@@ -179,7 +188,8 @@ fn put_entry(into: &mut Vec<u8>, to: Option<Tid>, level: u8)
 
 fn put_hint(into: &mut Vec<u8>, block: u32)
     requires { vec_len into.old + 5 ≤ vec_capacity into.old }
-    ensures { into.new.items ≡ into.old.items ++ spelling (Event.Hint block) }
+    ensures items { into.new.items ≡ into.old.items ++ spelling (Event.Hint block) }
+    ensures capacity { vec_capacity into.old ≤ vec_capacity into.new }
 {
     put(into, &[8]);
     put(into, &block.to_le_bytes());
@@ -187,7 +197,8 @@ fn put_hint(into: &mut Vec<u8>, block: u32)
 
 fn put_ivf_add(into: &mut Vec<u8>, block: u32, id: HeapId, bits: &Bits)
     requires { vec_len into.old + (11 + length (bits_bytes bits.now)) ≤ vec_capacity into.old }
-    ensures { into.new.items ≡ into.old.items ++ spelling (Event.IvfAdd block id bits.now) }
+    ensures items { into.new.items ≡ into.old.items ++ spelling (Event.IvfAdd block id bits.now) }
+    ensures capacity { vec_capacity into.old ≤ vec_capacity into.new }
 {
     put(into, &[9]);
     put(into, &block.to_le_bytes());
@@ -197,7 +208,8 @@ fn put_ivf_add(into: &mut Vec<u8>, block: u32, id: HeapId, bits: &Bits)
 
 fn put_ivf_grow(into: &mut Vec<u8>, list: u32, last: u32, block: u32, id: HeapId, bits: &Bits)
     requires { vec_len into.old + (19 + length (bits_bytes bits.now)) ≤ vec_capacity into.old }
-    ensures { into.new.items ≡ into.old.items ++ spelling (Event.IvfGrow list last block id bits.now) }
+    ensures items { into.new.items ≡ into.old.items ++ spelling (Event.IvfGrow list last block id bits.now) }
+    ensures capacity { vec_capacity into.old ≤ vec_capacity into.new }
 {
     put(into, &[10]);
     put(into, &list.to_le_bytes());
@@ -210,7 +222,8 @@ fn put_ivf_grow(into: &mut Vec<u8>, list: u32, last: u32, block: u32, id: HeapId
 fn put_ivf_drop(into: &mut Vec<u8>, block: u32, gone: &[u16])
     requires rises { RisesFrom 0 gone.now }
     requires room { vec_len into.old + (5 + length (offsets_bytes gone.now)) ≤ vec_capacity into.old }
-    ensures { into.new.items ≡ into.old.items ++ spelling (Event.IvfDrop block gone.now) }
+    ensures items { into.new.items ≡ into.old.items ++ spelling (Event.IvfDrop block gone.now) }
+    ensures capacity { vec_capacity into.old ≤ vec_capacity into.new }
 {
     put(into, &[11]);
     put(into, &block.to_le_bytes());
@@ -219,7 +232,8 @@ fn put_ivf_drop(into: &mut Vec<u8>, block: u32, gone: &[u16])
 
 fn put_ivf_hint(into: &mut Vec<u8>, list: u32, block: u32)
     requires { vec_len into.old + 9 ≤ vec_capacity into.old }
-    ensures { into.new.items ≡ into.old.items ++ spelling (Event.IvfHint list block) }
+    ensures items { into.new.items ≡ into.old.items ++ spelling (Event.IvfHint list block) }
+    ensures capacity { vec_capacity into.old ≤ vec_capacity into.new }
 {
     put(into, &[12]);
     put(into, &list.to_le_bytes());

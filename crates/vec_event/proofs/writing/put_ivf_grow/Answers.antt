@@ -2,9 +2,9 @@ use Rattle.std.proofs.Common.{append_assoc, refl}
 use Rattle.vec_event.specs.Spelling.{spelling}
 use Rattle.vec_event.proofs.writing.put_ivf_grow.Goals as goal
 
-pub returns : goal.returns
+pub returns-clause-items : goal.returns-clause-items
 unfolding spelling
-returns c =
+returns-clause-items c =
     rw (
       c.put_bits.ensures.items,
       c.put-5.ensures.items,
