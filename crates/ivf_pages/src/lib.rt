@@ -1,0 +1,9 @@
+//! Pages that stand for an index of lists, and that redo on them is the effect on the index.
+//!
+//! `specs/Standing.antt` says which pages stand for which index. The laws of `effects` tie the two: redo of an event that follows
+//! is the event's effect on the index.
+#![tactic(auto)]
+
+mod effects;
+
+pub use effects::{law_add, law_drop, law_hint};
