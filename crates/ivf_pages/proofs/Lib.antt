@@ -6,3 +6,8 @@ pub mod PagesChanged
 pub mod RowsChanged
 pub mod RowEffects
 pub mod AimEffect
+pub mod GrowEffect
+pub mod GrowRedo
+pub mod RedoEffect
+pub mod StandingLaws
+pub mod BlocksKept

@@ -5,5 +5,7 @@
 #![tactic(auto)]
 
 mod effects;
+mod law;
 
-pub use effects::{law_add, law_drop, law_hint};
+pub use effects::{law_add, law_blocks, law_drop, law_grow, law_hint, law_redo};
+pub use law::law_standing;
