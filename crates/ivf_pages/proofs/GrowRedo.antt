@@ -37,7 +37,7 @@ behind_all : {X : Type 0} (xs : List X) (x : X) → slice_get (xs ++ x ∷ []) (
 behind_all [] x = refl
 behind_all (y ∷ ys) x = behind_all ys x
 
-at_end : {X : Type 0} (xs : List X) (x : X) (n : ℕ) → n ≡ length xs → slice_get (xs ++ x ∷ []) n ≡ Some x
+pub at_end : {X : Type 0} (xs : List X) (x : X) (n : ℕ) → n ≡ length xs → slice_get (xs ++ x ∷ []) n ≡ Some x
 at_end xs x n is = ap (slice_get (xs ++ x ∷ [])) is ∙ behind_all xs x
 
 module _ (p : Params) (pages after : List Content) (g : IvfGraph) (list last new : ℕ) (id : HeapId) (bits : List Bool) (wrap number : ℕ)

@@ -1,4 +1,6 @@
 pub mod Given
+pub mod RowRoom
+pub mod RowsThere
 pub mod Chains
 pub mod Root
 pub mod Ended
@@ -11,3 +13,5 @@ pub mod GrowRedo
 pub mod RedoEffect
 pub mod StandingLaws
 pub mod BlocksKept
+pub mod EventFits
+pub mod AllowedFits

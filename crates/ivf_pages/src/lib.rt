@@ -5,7 +5,9 @@
 #![tactic(auto)]
 
 mod effects;
+mod fitting;
 mod law;
 
 pub use effects::{law_add, law_blocks, law_drop, law_grow, law_hint, law_redo};
+pub use fitting::law_allowed;
 pub use law::law_standing;
