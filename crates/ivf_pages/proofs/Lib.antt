@@ -15,3 +15,6 @@ pub mod StandingLaws
 pub mod BlocksKept
 pub mod EventFits
 pub mod AllowedFits
+pub mod ListBytes
+pub mod PagesKept
+pub mod Replays

@@ -2,3 +2,4 @@
 pub mod Standing
 pub mod Effects
 pub mod Following
+pub mod Replaying

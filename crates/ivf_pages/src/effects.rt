@@ -3,7 +3,7 @@
 //! Redo itself tests the kinds of pages, the length of a value, offsets and room. What a law asks besides is what an event that
 //! the rules allow gives.
 
-ghost use Rattle.std.specs.Prelude.{◌<◌, ◌≤◌, ◌^◌, ℕ, Bool, List, All, length};
+ghost use Rattle.std.specs.Prelude.{◌≡◌, ◌<◌, ◌≤◌, ◌^◌, ℕ, Bool, List, Some, slice_get, All, Contains, length};
 ghost use Rattle.vec_names.specs.declared.heap_id.HeapId.{HeapId};
 ghost use Rattle.vec_names.specs.declared.params.Params.{Params as AnyParams};
 ghost use Rattle.vec_history.specs.declared.event.Event.{Event as Events};
@@ -12,6 +12,7 @@ ghost use Rattle.page_bytes.specs.Content.{Content, IsPage};
 ghost use Rattle.ivf_graph.specs.declared.graph.IvfGraph.{IvfGraph};
 ghost use Rattle.ivf_graph.specs.Effect.{effect};
 ghost use Rattle.ivf_graph.specs.Rules.{IsAimAllowed};
+ghost use Rattle.page_redo.specs.Redo.{touched};
 ghost use Rattle.graph_pages.specs.Growing.{AreAllRedone};
 ghost use Rattle.ivf_pages.specs.Standing.{Stands};
 ghost use Rattle.ivf_pages.specs.Effects.{RedoIsEffect};
@@ -60,4 +61,14 @@ pub fn law_blocks()
     ensures { (p : AnyParams) (pages after : List Content) (g : IvfGraph) (event : Events) (wrap number : ℕ)
         → length pages ≤ MOST_BLOCKS → Follows g event → AreAllRedone p wrap number event pages after
         → length after ≤ MOST_BLOCKS }
+{}
+
+/// A law, and no work. Redo of an event that follows leaves pages that have bytes, where those before had, and the event's number fits
+/// a page. Each page that it touches carries that number.
+pub fn law_pages()
+    ensures bytes { (p : AnyParams) (pages after : List Content) (g : IvfGraph) (event : Events) (wrap number : ℕ) → All IsPage pages
+        → Stands p pages g → Follows g event → number < 2 ^ 64 → AreAllRedone p wrap number event pages after → All IsPage after }
+    ensures numbers { (p : AnyParams) (pages after : List Content) (event : Events) (wrap number block : ℕ) (page : Content)
+        → AreAllRedone p wrap number event pages after → Contains (touched event p) block → slice_get after block ≡ Some page
+        → page.number ≡ number }
 {}
