@@ -13,3 +13,6 @@ pub use effects::{law_add, law_blocks, law_drop, law_grow, law_hint, law_pages, 
 pub use fitting::law_allowed;
 pub use law::law_standing;
 pub use replaying::{law_legal_replay, law_replay};
+
+#[cfg(test)]
+mod tests;
