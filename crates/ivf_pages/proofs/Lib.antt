@@ -18,3 +18,4 @@ pub mod AllowedFits
 pub mod ListBytes
 pub mod PagesKept
 pub mod Replays
+pub mod SmallIndex

@@ -3,3 +3,4 @@ pub mod Standing
 pub mod Effects
 pub mod Following
 pub mod Replaying
+pub mod Examples

@@ -5,11 +5,13 @@
 #![tactic(auto)]
 
 mod effects;
+mod examples;
 mod fitting;
 mod law;
 mod replaying;
 
 pub use effects::{law_add, law_blocks, law_drop, law_grow, law_hint, law_pages, law_redo};
+pub use examples::law_examples;
 pub use fitting::law_allowed;
 pub use law::law_standing;
 pub use replaying::{law_legal_replay, law_replay};
