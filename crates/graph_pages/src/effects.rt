@@ -3,7 +3,7 @@
 //! Redo itself tests versions, deleted states, and the numbers of ids and slots. What a law asks besides is what an event that
 //! the rules allow gives.
 
-ghost use Rattle.std.specs.Prelude.{◌≡◌, ◌≤◌, ◌<◌, ◌+◌, ◌++◌, ◌∷◌, [], ℕ, Bool, List, length, Option, Some, None, slice_get, replicate, All};
+ghost use Rattle.std.specs.Prelude.{◌≡◌, ◌≤◌, ◌<◌, ◌+◌, ◌++◌, ◌∷◌, [], ℕ, Bool, List, length, Option, Some, None, slice_get, replicate, All, Contains, ◌^◌};
 ghost use Rattle.vec_names.specs.declared.tid.Tid.{Tid as Place};
 ghost use Rattle.vec_names.specs.declared.heap_id.HeapId.{HeapId};
 ghost use Rattle.vec_names.specs.declared.params.Params.{Params as AnyParams};
@@ -133,4 +133,14 @@ pub fn law_once()
 pub fn law_fresh()
     ensures { (pages : List Content) (g : Graph) (count : ℕ) → Stands pages g
         → Stands (pages ++ replicate count (fresh_page PageKind.Hnsw)) (record g { blocks = g.blocks + count }) }
+{}
+
+/// A law, and no work. Redo of an event that follows leaves pages that have bytes, where those before had, and the event's number fits
+/// a page. Each page that it touches carries that number.
+pub fn law_pages()
+    ensures bytes { (pages after : List Content) (g : Graph) (event : Events) (wrap number : ℕ) → All IsPage pages → Stands pages g
+        → Follows pages g event → number < 2 ^ 64 → AreAllRedone g.params wrap number event pages after → All IsPage after }
+    ensures numbers { (pages after : List Content) (g : Graph) (event : Events) (wrap number block : ℕ) (page : Content)
+        → AreAllRedone g.params wrap number event pages after → Contains (touched event g.params) block
+        → slice_get after block ≡ Some page → page.number ≡ number }
 {}

@@ -1,0 +1,2 @@
+pub mod RedoneThere
+pub mod Replays
