@@ -1,2 +1,4 @@
 pub mod RedoneThere
 pub mod Replays
+pub mod Placed
+pub mod AllowedFits

@@ -5,9 +5,9 @@
 //! graph, and that the acts of a legal history follow so and fit.
 #![tactic(auto)]
 
+mod allowed;
 mod replaying;
 
+pub use allowed::law_allowed;
 pub use replaying::{law_fronts, law_replay};
 
-#[cfg(test)]
-mod tests;
