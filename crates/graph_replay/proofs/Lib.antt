@@ -2,3 +2,4 @@ pub mod RedoneThere
 pub mod Replays
 pub mod Placed
 pub mod AllowedFits
+pub mod LegalReplay

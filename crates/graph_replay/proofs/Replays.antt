@@ -50,7 +50,7 @@ pub record IsIndex (pages : List Content) (g : Graph) (format : Option ℕ) : Ty
   pub stands : Stands pages g
   pub of_format : format_in pages ≡ format
 
-next_low : (number : ℕ) → next_number number < 2 ^ 64
+pub next_low : (number : ℕ) → next_number number < 2 ^ 64
 next_low number = omega arith
 
 -- one event keeps all that

@@ -6,8 +6,10 @@
 #![tactic(auto)]
 
 mod allowed;
+mod legal;
 mod replaying;
 
 pub use allowed::law_allowed;
+pub use legal::law_legal_replay;
 pub use replaying::{law_fronts, law_replay};
 
