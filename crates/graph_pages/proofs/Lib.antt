@@ -43,3 +43,4 @@ pub mod PagesAfter
 pub mod EntrySums
 pub mod PageRoom
 pub mod PageShape
+pub mod OtherFormat

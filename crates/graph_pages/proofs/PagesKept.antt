@@ -55,7 +55,7 @@ place_of : (items : List (List ℕ)) (off : ℕ) (old : List ℕ) → item_at it
 place_of items zero old is = absurd cc
 place_of items (suc i) old is = ap (slice_get items) (let back : suc i - 1 ≡ i = omega arith in back) ∙ is
 
-page_set : (c : Content) (off : ℕ) (old x : List ℕ) → IsPage c → item_at c.items off ≡ Some old → length old ≡ length x → IsItem x
+pub page_set : (c : Content) (off : ℕ) (old x : List ℕ) → IsPage c → item_at c.items off ≡ Some old → length old ≡ length x → IsItem x
     → IsPage (with_item c off x)
 page_set c off old x page is long item = record {
   next = page.next;
