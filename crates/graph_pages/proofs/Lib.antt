@@ -44,3 +44,4 @@ pub mod EntrySums
 pub mod PageRoom
 pub mod PageShape
 pub mod OtherFormat
+pub mod FollowLaws

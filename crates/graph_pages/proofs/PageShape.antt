@@ -59,11 +59,11 @@ no_level : (entry : Option Tid) (level : ℕ) → entry ≡ None → is_level en
 no_level None level none is = eqb-true level 0 is
 no_level (Some at) level none is = absurd cc
 
-of_level : (level : ℕ) (o : Option ElementHead) → is_of_level level o ≡ true → (h : ElementHead) × (o ≡ Some h) × (h.level ≡ level)
+pub of_level : (level : ℕ) (o : Option ElementHead) → is_of_level level o ≡ true → (h : ElementHead) × (o ≡ Some h) × (h.level ≡ level)
 of_level level None is = absurd cc
 of_level level (Some h) is = (h, refl, eqb-true h.level level is)
 
-list_is : (p : Params) (h : ElementHead) (o : Option Links) → is_list_of p h o ≡ true → (l : Links) × (o ≡ Some l)
+pub list_is : (p : Params) (h : ElementHead) (o : Option Links) → is_list_of p h o ≡ true → (l : Links) × (o ≡ Some l)
 list_is p h None good = absurd cc
 list_is p h (Some l) good = (l, refl)
 

@@ -11,6 +11,7 @@ mod broken_blocks;
 mod decoded;
 mod effects;
 mod fitting;
+mod following;
 mod graph_fault;
 mod law;
 mod list_pointers;
@@ -27,6 +28,7 @@ pub use fitting::{
     law_drop_fits, law_entry_fits, law_hint_fits, law_join_fits, law_link_fits, law_mark_fits,
     law_put_again_fits, law_put_fresh_fits, law_put_new_fits, law_relist_fits,
 };
+pub use following::follows;
 pub use graph_fault::GraphFault;
 pub use law::law_standing;
 pub use room::law_room;
