@@ -135,9 +135,12 @@ module _ (pages : List Content) (g : Graph) (p : Params) (all : All IsPage pages
   -- and a node has one
   head_of : (at : Tid) (n : Node) → node_at g at ≡ Some n → (h : ElementHead) × (head_in p pages at ≡ Some h) × (h.list_at ≡ n.list_at) × (h.level ≡ n.level)
   head_of at n stands =
-      let node = node_there pages g all s at n stands in
-      (head_of_element node.0, ap (λ (q : Params). head_in q pages at) (sym its_are) ∙ ap (option_map head_of_element) node.1,
-      ap (λ (m : Node). m.list_at) node.4, ap (λ (m : Node). m.level) node.4)
+      let node = node_there pages g all s at n stands in (
+        head_of_element node.0,
+        ap (λ (q : Params). head_in q pages at) (sym its_are) ∙ ap (option_map head_of_element) node.1,
+        ap (λ (m : Node). m.list_at) node.4,
+        ap (λ (m : Node). m.level) node.4,
+      )
 
   pub has_list_iff : (at list_at : Tid) → IsTrue (names_list list_at (head_in p pages at)) ↔ HasList g at list_at
   has_list_iff at list_at = (

@@ -59,9 +59,7 @@ pub fn follows(event: &Event, params: &Params, pages: &[Page]) -> bool
             list_at,
             version: _,
             lists,
-        } => {
-            has_list(pages, params, *at, *list_at) && are_below(pages.len(), lists.as_slice())
-        }
+        } => { has_list(pages, params, *at, *list_at) && are_below(pages.len(), lists.as_slice()) }
         Event::Drop {
             at: _,
             version: _,

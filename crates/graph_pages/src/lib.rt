@@ -22,7 +22,8 @@ mod standing;
 
 pub use effects::{
     law_blocks, law_drop, law_entry, law_format, law_fresh, law_hint, law_join, law_link, law_mark,
-    law_once, law_one_block, law_other_format, law_pages, law_put_again, law_put_new, law_redo, law_relist,
+    law_once, law_one_block, law_other_format, law_pages, law_put_again, law_put_new, law_redo,
+    law_relist,
 };
 pub use fitting::{
     law_drop_fits, law_entry_fits, law_hint_fits, law_join_fits, law_link_fits, law_mark_fits,
