@@ -1,5 +1,5 @@
 -- Sums and greatest numbers over the entries of a map of places.
-use Rattle.std.proofs.Common.{◌≡◌, ℕ, ◌+◌, ◌≤◌, max, Bool, true, false, cond, ◌&&◌, T, List, [], ◌∷◌, sum_by, Option, Some, None, refl, sym, ap, subst, ◌∙◌, arith}
+use Rattle.std.proofs.Common.{◌≡◌, ℕ, ◌≤◌, false, cond, T, List, [], ◌∷◌, sum_by, Some, refl, sym, ap, ◌∙◌, arith}
 use Rattle.std.specs.declared.cmp.Ordering.{Ordering}
 use Rattle.std.specs.declared.cmp.Ordering.TheVariants.{Less, Equal, Greater}
 use Rattle.std.specs.Ordering.{is_lt, is_eq, ordering_reverse}
@@ -12,7 +12,7 @@ use Rattle.vec_names.specs.declared.tid.Tid.{Tid}
 use Rattle.vec_names.specs.Order.{tid_cmp, tid_cmp_total, tid_cmp_exact}
 use Rattle.vec_graph.specs.declared.node.Node.{Node}
 use Rattle.vec_graph.specs.Places.{last_off, greatest_off}
-use Rattle.vec_graph.proofs.Copies.{equal, left, right}
+use Rattle.vec_graph.proofs.Copies.{left, right}
 use Rattle.graph_pages.proofs.TwoItems.{none_or_some}
 
 abbrev pub Entry : Type 0
@@ -42,7 +42,7 @@ key_behind x (e ∷ es) q n low has =
     by_order Greater is rest found = rest found
 
 -- an entry behind the first one has another key, and is found among all
-behind_first : (e : Entry) (es : List Entry) (q : Tid) (n : Node) → Rises (e ∷ es) → Has es q n → tid_cmp q e.0 ≡ Greater
+pub behind_first : (e : Entry) (es : List Entry) (q : Tid) (n : Node) → Rises (e ∷ es) → Has es q n → tid_cmp q e.0 ≡ Greater
 behind_first e es q n rises has =
     tid_cmp_total.antisymm q e.0 ∙ ap ordering_reverse (key_behind e.0 es q n (left (below_all tid_cmp e.0 es) (is_sorted tid_cmp es) rises) has)
 
@@ -52,7 +52,7 @@ still_has e es q n rises has = ap (λ r. cond (is_eq r) (Some e.1) (fin.find tid
 has_first : (e : Entry) (es : List Entry) → Has (e ∷ es) e.0 e.1
 has_first e es = ap (λ r. cond (is_eq r) (Some e.1) (fin.find tid_cmp e.0 es)) (tied_itself tid_cmp_total e.0)
 
-others_rise : (e : Entry) (es : List Entry) → Rises (e ∷ es) → Rises es
+pub others_rise : (e : Entry) (es : List Entry) → Rises (e ∷ es) → Rises es
 others_rise e es rises = right (below_all tid_cmp e.0 es) (is_sorted tid_cmp es) rises
 
 -- what is equal of each entry has equal sums

@@ -1,9 +1,9 @@
 -- What the tests of whether an event follows tell of pages that stand for a graph.
-use Rattle.std.proofs.Common.{◌≡◌, ◌↔◌, inl, inr, ◌⊎◌, ℕ, zero, suc, ◌+◌, ◌<◌, ◌≤◌, ◌==◌, ◌&&◌, ◌||◌, max, min, Bool, true, false, List, length, get_or, Option, Some, None, refl, sym, ap, subst, ◌∙◌, arith, IsTrue}
-use Rattle.std.specs.Prelude.{slice_get, nat_le, nat_lt}
+use Rattle.std.proofs.Common.{◌≡◌, ◌↔◌, inl, inr, ◌⊎◌, ℕ, ◌+◌, ◌<◌, ◌≤◌, ◌==◌, ◌&&◌, ◌||◌, max, Bool, true, false, List, length, get_or, Option, Some, None, refl, sym, ap, subst, ◌∙◌, arith, IsTrue}
+use Rattle.std.specs.Prelude.{nat_le, nat_lt}
 use Rattle.std.specs.List.{All}
 use Rattle.std.specs.Option.{option_map, option_and_then}
-use Rattle.std.proofs.lemmas.Bool.{and_parts, and_from, eqb-true, eq-eqb, leb-true, le-leb, ltb-true, lt-ltb, cases_lt, cases_eq}
+use Rattle.std.proofs.lemmas.Bool.{and_parts, and_from, eqb-true, eq-eqb, leb-true, le-leb, ltb-true, lt-ltb, cases_lt}
 use Rattle.std.proofs.lemmas.Option.{slice_get_within, slice_get-get_or, get_or_from_slice_get}
 use Rattle.byte_fields.proofs.EachField.{some_is}
 use Rattle.vec_names.specs.declared.tid.Tid.{Tid}
@@ -11,16 +11,15 @@ use Rattle.vec_names.specs.declared.heap_id.HeapId.{HeapId}
 use Rattle.vec_names.specs.declared.params.Params.{Params}
 use Rattle.vec_history.specs.declared.event.Event.{Event}
 use Rattle.vec_history.specs.declared.event.Event.TheVariants.{Put, Link, Relist, Mark, Entry}
-use Rattle.page_bytes.specs.Content.{Content, IsPage, item_at}
-use Rattle.vec_tuples.specs.declared.element.Element.{Element}
+use Rattle.page_bytes.specs.Content.{Content, IsPage}
 use Rattle.vec_tuples.specs.declared.element.ElementHead.{ElementHead}
 use Rattle.vec_tuples.specs.Spelling.{head_of_element}
-use Rattle.vec_tuples.specs.Reading.{element, links}
+use Rattle.vec_tuples.specs.Reading.{element}
 use Rattle.vec_graph.specs.declared.node.Node.{Node}
 use Rattle.vec_graph.specs.declared.graph.Graph.{Graph}
 use Rattle.vec_graph.specs.Graph.{node_at, HasLevel}
 use Rattle.page_redo.specs.PageTuples.{in_whole}
-use Rattle.graph_pages.specs.Standing.{item_in, element_in, links_in, head_in, is_of_level, is_entry, is_slot_below, is_list_of, is_place, node_with as made_of, Stands}
+use Rattle.graph_pages.specs.Standing.{item_in, element_in, links_in, head_in, is_of_level, is_entry, is_slot_below, is_place, node_with as made_of, Stands}
 use Rattle.graph_pages.specs.Following.{AreBelow, HasList, AreNextBlocks, AreNewPlaces, Follows}
 use Rattle.graph_pages.specs.FollowTests.{names_list, is_nothing, are_next, are_new, may_put}
 use Rattle.graph_pages.proofs.Given.{then_is, map_is}
@@ -120,7 +119,8 @@ module _ (pages : List Content) (g : Graph) (p : Params) (all : All IsPage pages
   its_are = sym s.params ∙ same
 
   -- an element that stands there is a node's
-  node_of : (at : Tid) (h : ElementHead) → head_in p pages at ≡ Some h → (n : Node) × (node_at g at ≡ Some n) × (n.list_at ≡ h.list_at) × (n.level ≡ h.level)
+  pub node_of : (at : Tid) (h : ElementHead) → head_in p pages at ≡ Some h
+      → (n : Node) × (node_at g at ≡ Some n) × (n.list_at ≡ h.list_at) × (n.level ≡ h.level) × ((n.deleted ≡ h.deleted) × (n.version ≡ h.version))
   node_of at h is =
       let e = map_is head_of_element (element_in its pages at) h (ap (λ (q : Params). head_in q pages at) its_are ∙ is) in
       let x = then_is (λ x. in_whole (element its x)) (item_in pages at) e.0 e.1 in
@@ -129,17 +129,24 @@ module _ (pages : List Content) (g : Graph) (p : Params) (all : All IsPage pages
       let good = element_good its pages at x.0 e.0 (node_pages pages g s at.block low) x.1 x.2 (element_is_no_list its x.0 e.0 x.2) in
       let l = list_is its (head_of_element e.0) (links_in its pages e.0.list_at) good in
       let stands : node_at g at ≡ Some (made_of e.0 l.0) =
-      s.nodes at ∙ ap (λ o. option_and_then (λ e. option_map (made_of e) (links_in its pages e.list_at)) o) e.1 ∙ ap (option_map (made_of e.0)) l.1 in
-      (made_of e.0 l.0, stands, ap (λ (h : ElementHead). h.list_at) e.2, ap (λ (h : ElementHead). h.level) e.2)
+      s.nodes at ∙ ap (λ o. option_and_then (λ e. option_map (made_of e) (links_in its pages e.list_at)) o) e.1 ∙ ap (option_map (made_of e.0)) l.1 in (
+        made_of e.0 l.0,
+        stands,
+        ap (λ (h : ElementHead). h.list_at) e.2,
+        ap (λ (h : ElementHead). h.level) e.2,
+        (ap (λ (h : ElementHead). h.deleted) e.2, ap (λ (h : ElementHead). h.version) e.2),
+      )
 
   -- and a node has one
-  head_of : (at : Tid) (n : Node) → node_at g at ≡ Some n → (h : ElementHead) × (head_in p pages at ≡ Some h) × (h.list_at ≡ n.list_at) × (h.level ≡ n.level)
+  pub head_of : (at : Tid) (n : Node) → node_at g at ≡ Some n
+      → (h : ElementHead) × (head_in p pages at ≡ Some h) × (h.list_at ≡ n.list_at) × (h.level ≡ n.level) × ((h.deleted ≡ n.deleted) × (h.version ≡ n.version))
   head_of at n stands =
       let node = node_there pages g all s at n stands in (
         head_of_element node.0,
         ap (λ (q : Params). head_in q pages at) (sym its_are) ∙ ap (option_map head_of_element) node.1,
         ap (λ (m : Node). m.list_at) node.4,
         ap (λ (m : Node). m.level) node.4,
+        (ap (λ (m : Node). m.deleted) node.4, ap (λ (m : Node). m.version) node.4),
       )
 
   pub has_list_iff : (at list_at : Tid) → IsTrue (names_list list_at (head_in p pages at)) ↔ HasList g at list_at

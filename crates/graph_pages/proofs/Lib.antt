@@ -45,3 +45,4 @@ pub mod PageRoom
 pub mod PageShape
 pub mod OtherFormat
 pub mod FollowLaws
+pub mod ReusedPlace

@@ -1,6 +1,6 @@
 -- Pages of which the meta tuple has another format stand for the same graph.
 use Rattle.std.proofs.Common.{◌≡◌, ℕ, ◌^◌, ◌<◌, ◌≤◌, List, length, Option, Some, refl, sym, ap, subst, ◌∙◌, arith}
-use Rattle.std.specs.Prelude.{slice_get, slice_set, nat_le}
+use Rattle.std.specs.Prelude.{slice_get, slice_set}
 use Rattle.std.specs.List.{All}
 use Rattle.std.specs.Option.{option_map, option_and_then}
 use Rattle.std.proofs.lemmas.Bool.{leb-true}
@@ -14,13 +14,12 @@ use Rattle.vec_tuples.specs.Reading.{meta}
 use Rattle.vec_tuples.proofs.MetaLaws.{meta_field}
 use Rattle.vec_graph.specs.declared.graph.Graph.{Graph}
 use Rattle.page_redo.specs.PageTuples.{in_whole, meta_at, with_item}
-use Rattle.page_redo.specs.Redo.{numbered}
 use Rattle.page_redo.proofs.ItemLaws.{whole_read}
 use Rattle.page_redo.proofs.Lengths.{meta_long}
 use Rattle.page_redo.proofs.Putting.{set_here, with_item_here}
 use Rattle.graph_pages.specs.Standing.{Stands}
 use Rattle.graph_pages.specs.Effects.{format_in, with_format}
-use Rattle.graph_pages.proofs.Given.{then_is, got_from_all, item_bytes}
+use Rattle.graph_pages.proofs.Given.{then_is, got_from_all}
 use Rattle.graph_pages.proofs.StandingLaws.{root_is, root_spelled}
 use Rattle.graph_pages.proofs.MetaEffect.{meta_effect, root_parts, meta_fits, meta_there}
 use Rattle.graph_pages.proofs.PagesKept.{page_set, with_number}

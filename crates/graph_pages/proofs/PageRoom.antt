@@ -1,5 +1,5 @@
 -- What is left of a page, and its next offset, as the graph tells them.
-use Rattle.std.proofs.Common.{◌≡◌, inl, inr, ◌⊎◌, ℕ, zero, suc, ◌+◌, ◌-◌, ◌*◌, ◌/◌, ◌<◌, ◌≤◌, ◌==◌, ◌&&◌, ◌||◌, max, Bool, true, false, cond, List, [], ◌∷◌, length, get_or, take, sum_by, Option, Some, None, refl, sym, ap, subst, ◌∙◌, arith}
+use Rattle.std.proofs.Common.{◌≡◌, inl, inr, ◌⊎◌, ℕ, zero, suc, ◌+◌, ◌-◌, ◌*◌, ◌<◌, ◌≤◌, ◌==◌, ◌&&◌, ◌||◌, Bool, true, false, cond, List, [], ◌∷◌, length, get_or, take, sum_by, Option, Some, None, refl, sym, ap, subst, ◌∙◌, arith}
 use Rattle.std.specs.Prelude.{slice_get, nat_le, flat_map}
 use Rattle.std.specs.List.{All, list_all}
 use Rattle.std.specs.Option.{option_map, option_and_then}
@@ -10,7 +10,6 @@ use Rattle.std.proofs.lemmas.List.Sums.{sum_by-cons, sum_by_more}
 use Rattle.std.proofs.lemmas.Option.{slice_get_within, slice_get-get_or, get_or_from_slice_get}
 use Rattle.index_sizes.specs.declared.limits.TheConstants.{MOST_BLOCKS}
 use Rattle.index_sizes.specs.Sizes.{item_need, element_size, links_size, slots_of_level}
-use Rattle.byte_fields.proofs.EachField.{some_is}
 use Rattle.vec_names.specs.declared.tid.Tid.{Tid}
 use Rattle.vec_names.specs.declared.params.Params.{Params}
 use Rattle.vec_names.specs.Params.{IsInRange}
@@ -19,7 +18,7 @@ use Rattle.page_bytes.specs.Content.{Content, IsPage, item_at, round8, taken, fr
 use Rattle.vec_tuples.specs.declared.element.Element.{Element}
 use Rattle.vec_tuples.specs.declared.element.ElementHead.{ElementHead}
 use Rattle.vec_tuples.specs.declared.links.Links.{Links}
-use Rattle.vec_tuples.specs.Spelling.{element_bytes, links_bytes, head_of_element}
+use Rattle.vec_tuples.specs.Spelling.{head_of_element}
 use Rattle.vec_tuples.specs.Reading.{element, links}
 use Rattle.vec_tuples.proofs.ElementLaws.{element_field}
 use Rattle.vec_tuples.proofs.LinksLaws.{links_field}
@@ -32,14 +31,14 @@ use Rattle.page_redo.specs.PageTuples.{in_whole}
 use Rattle.page_redo.proofs.ItemLaws.{whole_spelled}
 use Rattle.page_redo.proofs.Lengths.{length-element_bytes}
 use Rattle.graph_pages.specs.Standing.{item_in, element_in, links_in, head_in, is_list_of, is_element, is_list, is_slot_below, pointer_of, pointers_on, pointers, times_in, node_with as made_of, Stands}
-use Rattle.graph_pages.proofs.Given.{then_is, map_is, item_bytes, got_from_all}
+use Rattle.graph_pages.proofs.Given.{then_is, item_bytes, got_from_all}
 use Rattle.graph_pages.proofs.KindsApart.{element_is_no_list}
 use Rattle.graph_pages.proofs.PagePlaces.{item_on, item_within}
 use Rattle.graph_pages.proofs.Pointed.{times_both, named_once}
 use Rattle.graph_pages.proofs.StandingLaws.{node_pages}
 use Rattle.graph_pages.proofs.HeadEffect.{params_in_range}
 use Rattle.graph_pages.proofs.RoleFits.{node_there, list_alike}
-use Rattle.graph_pages.proofs.ItemAdded.{names_one, names_none, times_single}
+use Rattle.graph_pages.proofs.ItemAdded.{names_one, names_none}
 use Rattle.graph_pages.proofs.TwoItems.{none_or_some}
 use Rattle.graph_pages.proofs.PlaceTests.{place_itself, same_if_place}
 use Rattle.graph_pages.proofs.EntrySums.{Entry, Has, Rises, same_sums, no_sum, sum_of_one, greatest_low, greatest_high}

@@ -1,13 +1,12 @@
 -- Pages that stand for a graph give a shaped one.
-use Rattle.std.proofs.Common.{◌≡◌, ℕ, ◌+◌, ◌-◌, ◌*◌, ◌/◌, ◌<◌, ◌≤◌, ◌==◌, ◌&&◌, min, Bool, true, false, List, [], length, Option, Some, None, refl, sym, ap, subst, ◌∙◌, arith}
-use Rattle.std.specs.Prelude.{slice_get, nat_le}
+use Rattle.std.proofs.Common.{◌≡◌, ℕ, ◌+◌, ◌*◌, ◌/◌, ◌≤◌, Bool, true, false, List, [], length, Option, Some, None, refl, sym, ap, subst, ◌∙◌, arith}
+use Rattle.std.specs.Prelude.{nat_le}
 use Rattle.std.specs.List.{All}
 use Rattle.std.specs.Option.{option_map, option_and_then}
 use Rattle.std.proofs.lemmas.Nat.{le-div}
 use Rattle.std.proofs.lemmas.Bool.{and_parts, eqb-true, leb-true}
 use Rattle.std.proofs.lemmas.Option.{slice_get_within}
 use Rattle.index_sizes.specs.declared.limits.TheConstants.{MOST_BLOCKS, MOST_SLOTS}
-use Rattle.index_sizes.specs.Sizes.{slots_of_level}
 use Rattle.byte_fields.specs.Levels.{is_level}
 use Rattle.vec_names.specs.declared.tid.Tid.{Tid}
 use Rattle.vec_names.specs.declared.heap_id.HeapId.{HeapId}
@@ -17,7 +16,6 @@ use Rattle.vec_names.specs.declared.params.Params.{Params}
 use Rattle.vec_names.specs.Params.{IsInRange}
 use Rattle.vec_names.specs.Levels.{most_level}
 use Rattle.page_bytes.specs.Content.{Content, IsPage, item_at}
-use Rattle.vec_tuples.specs.declared.element.Element.{Element}
 use Rattle.vec_tuples.specs.declared.element.ElementHead.{ElementHead}
 use Rattle.vec_tuples.specs.declared.links.Links.{Links}
 use Rattle.vec_tuples.specs.Spelling.{IsHintOf, IsEmptyIf, head_of_element}
@@ -27,7 +25,7 @@ use Rattle.vec_tuples.proofs.LinksLaws.{links_field}
 use Rattle.vec_graph.specs.declared.node.Node.{Node}
 use Rattle.vec_graph.specs.declared.graph.Graph.{Graph}
 use Rattle.vec_graph.specs.Graph.{node_at, HasLevel}
-use Rattle.vec_graph.specs.Shaped.{IsShaped, IsShapedNode, HasEntryLevel}
+use Rattle.vec_graph.specs.Shaped.{IsShaped, IsShapedNode}
 use Rattle.page_redo.specs.PageTuples.{in_whole, is_graph}
 use Rattle.page_redo.proofs.ItemLaws.{whole_spelled}
 use Rattle.graph_pages.specs.Standing.{item_in, element_in, links_in, head_in, is_of_level, is_entry, is_list_of, node_with as made_of, Stands}

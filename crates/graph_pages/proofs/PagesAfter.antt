@@ -1,11 +1,11 @@
 -- All pages after redo of an event that follows have bytes, and those that it touches carry its number.
-use Rattle.std.proofs.Common.{◌≡◌, inl, inr, ℕ, ◌+◌, ◌-◌, ◌*◌, ◌^◌, ◌<◌, ◌≤◌, ◌==◌, ◌&&◌, List, [], ◌∷◌, ◌++◌, length, replicate, get_or, Option, Some, None, refl, sym, ap, subst, ◌∙◌, arith}
+use Rattle.std.proofs.Common.{◌≡◌, inl, inr, ℕ, ◌+◌, ◌-◌, ◌^◌, ◌<◌, ◌≤◌, ◌&&◌, List, length, replicate, get_or, Option, Some, None, refl, sym, ap, subst, ◌∙◌, arith}
 use Rattle.std.specs.Prelude.{slice_get, Contains}
 use Rattle.std.specs.List.{All}
 use Rattle.std.specs.Option.{option_map, option_and_then}
 use Rattle.std.proofs.lemmas.Bool.{and_parts, eqb-true, cases_eq}
 use Rattle.std.proofs.lemmas.List.Elements.{All-append, All-replicate}
-use Rattle.std.proofs.lemmas.Option.{slice_get_within, slice_get-get_or, get_or_from_slice_get}
+use Rattle.std.proofs.lemmas.Option.{slice_get_within, slice_get-get_or}
 use Rattle.byte_fields.specs.Levels.{is_level}
 use Rattle.byte_fields.proofs.EachField.{some_is}
 use Rattle.vec_names.specs.declared.tid.Tid.{Tid}
@@ -14,25 +14,23 @@ use Rattle.vec_names.specs.Params.{IsInRange}
 use Rattle.vec_history.specs.declared.event.Event.{Event}
 use Rattle.vec_history.specs.declared.event.Event.TheVariants.{Put, Join, Link, Relist, Drop, Mark, Entry, Hint, IvfAdd, IvfGrow, IvfDrop, IvfHint, Gate, Ungate, Phase, VacuumEnd, Cancel, Settled, DiskFaulted}
 use Rattle.page_bytes.specs.Content.{Content, IsPage, item_at}
-use Rattle.vec_tuples.specs.declared.meta.Meta.{Meta}
 use Rattle.vec_tuples.specs.declared.element.Element.{Element}
 use Rattle.vec_tuples.specs.declared.links.Links.{Links}
-use Rattle.vec_tuples.specs.Spelling.{meta_bytes, IsElement, element_bytes, IsLinks, links_bytes}
+use Rattle.vec_tuples.specs.Spelling.{meta_bytes, element_bytes, links_bytes}
 use Rattle.vec_tuples.specs.Reading.{element, links}
 use Rattle.vec_tuples.proofs.ElementLaws.{element_field}
 use Rattle.vec_tuples.proofs.LinksLaws.{links_field}
 use Rattle.vec_tuples.proofs.SlotPlaces.{length-links_bytes}
 use Rattle.vec_graph.specs.declared.node.Node.{Node}
 use Rattle.vec_graph.specs.declared.graph.Graph.{Graph}
-use Rattle.vec_graph.specs.Graph.{HasLevel}
 use Rattle.page_redo.specs.PageTuples.{in_whole, with_item, meta_at, meta_changed, is_graph, is_meta_page}
-use Rattle.page_redo.specs.PageChanges.{NewNode, new_node, new_element, new_links, put_element, put_links, on_meta, entered}
-use Rattle.page_redo.specs.Redo.{at_two, changed, touched, numbered}
+use Rattle.page_redo.specs.PageChanges.{NewNode, new_node, new_element, new_links, put_element, put_links, entered}
+use Rattle.page_redo.specs.Redo.{changed, touched, numbered}
 use Rattle.page_redo.proofs.ItemLaws.{whole_spelled}
 use Rattle.page_redo.proofs.Putting.{with_item_others}
 use Rattle.page_redo.proofs.Pairs.{put_not_same}
-use Rattle.graph_pages.specs.Standing.{element_in, links_in, item_in, Stands}
-use Rattle.graph_pages.specs.Effects.{AreRedone, format_in}
+use Rattle.graph_pages.specs.Standing.{links_in, item_in, Stands}
+use Rattle.graph_pages.specs.Effects.{format_in}
 use Rattle.graph_pages.specs.Growing.{fresh_page, new_kind, blocks_after, extended, AreAllRedone}
 use Rattle.graph_pages.specs.Following.{HasList, Follows}
 use Rattle.graph_pages.proofs.Given.{then_is, map_is, if_is, when_is, item_bytes, got_from_all}
@@ -43,7 +41,7 @@ use Rattle.graph_pages.proofs.RedoneOnce.{is_in}
 use Rattle.graph_pages.proofs.FreshPages.{get_front}
 use Rattle.graph_pages.proofs.TwoItems.{none_or_some}
 use Rattle.graph_pages.proofs.MarkEffect.{is_first, is_second, two_same, two_first, two_second}
-use Rattle.graph_pages.proofs.PutOldEffect.{IsElementPut, IsListPut, element_put, list_put, times_cancels, some_m}
+use Rattle.graph_pages.proofs.PutOldEffect.{element_put, list_put, times_cancels, some_m}
 use Rattle.graph_pages.proofs.FormatKept.{format_kept}
 use Rattle.graph_pages.proofs.PagesKept.{with_number, fresh_has_bytes, AreSmall, keeps_page}
 

@@ -1,14 +1,11 @@
 -- Redo of an event that follows leaves pages that have bytes, and gives each page that it touches its number.
-use Rattle.std.proofs.Common.{◌≡◌, ℕ, zero, suc, ◌+◌, ◌-◌, ◌*◌, ◌/◌, ◌^◌, ◌<◌, ◌≤◌, ◌&&◌, ◌==◌, eqb, Bool, true, false, List, [], ◌∷◌, ◌++◌, length, replicate, get_or, Option, Some, None, refl, sym, ap, subst, ◌∙◌, arith, inl, inr}
-use Rattle.std.specs.Prelude.{slice_get, slice_set, Contains, nat_le, ⊤}
-use Rattle.std.specs.List.{All}
-use Rattle.std.specs.Option.{option_map, option_and_then}
+use Rattle.std.proofs.Common.{◌≡◌, ℕ, zero, suc, ◌+◌, ◌-◌, ◌*◌, ◌/◌, ◌^◌, ◌<◌, ◌≤◌, ◌&&◌, ◌==◌, eqb, Bool, true, false, List, [], ◌∷◌, ◌++◌, length, get_or, Option, Some, None, refl, sym, ap, subst, ◌∙◌, arith, inl, inr}
+use Rattle.std.specs.Prelude.{slice_get, slice_set, nat_le, ⊤}
+use Rattle.std.specs.Option.{option_map}
 use Rattle.std.proofs.lemmas.Bool.{and_parts, eqb-true, eq-eqb, ne_eqb, leb-true, cases_eq}
 use Rattle.std.proofs.lemmas.List.{length-append, length-set, length-replicate}
-use Rattle.std.proofs.lemmas.List.Elements.{All-set, All-push, All-cons, All-nil, All-append, All-replicate}
-use Rattle.std.proofs.lemmas.Option.{slice_get_within, slice_get-get_or}
+use Rattle.std.proofs.lemmas.List.Elements.{All-set, All-push, All-cons, All-nil}
 use Rattle.index_sizes.specs.Sizes.{next_version}
-use Rattle.byte_fields.specs.Levels.{is_level}
 use Rattle.byte_fields.proofs.EachField.{some_is}
 use Rattle.vec_names.specs.declared.tid.Tid.{Tid}
 use Rattle.vec_names.specs.declared.heap_id.HeapId.{HeapId}
@@ -21,25 +18,24 @@ use Rattle.page_bytes.specs.Content.{Content, IsPage, IsItem, item_at, round8, t
 use Rattle.page_bytes.proofs.Placing.{taken-nil, taken-cons, taken-append}
 use Rattle.page_bytes.proofs.Changes.{taken-one}
 use Rattle.vec_tuples.specs.declared.meta.Meta.{Meta}
-use Rattle.vec_tuples.specs.declared.element.Element.{Element}
 use Rattle.vec_tuples.specs.declared.element.ElementHead.{ElementHead}
 use Rattle.vec_tuples.specs.declared.links.Links.{Links}
-use Rattle.vec_tuples.specs.Spelling.{IsMeta, meta_bytes, IsElement, element_bytes, head_of_element, beside, IsLinks, links_bytes}
+use Rattle.vec_tuples.specs.Spelling.{meta_bytes, element_bytes, head_of_element, beside, links_bytes}
 use Rattle.vec_tuples.specs.Reading.{meta, element, links}
 use Rattle.vec_tuples.proofs.MetaLaws.{meta_field}
 use Rattle.vec_tuples.proofs.ElementLaws.{element_field}
 use Rattle.vec_tuples.proofs.LinksLaws.{links_field}
 use Rattle.vec_tuples.proofs.SlotPlaces.{length-links_bytes}
 use Rattle.page_redo.specs.PageTuples.{in_whole, element_at, links_at, meta_at, with_item, with_head, added, head_changed, links_changed, meta_changed, is_graph, is_graph_page, is_meta_page}
-use Rattle.page_redo.specs.PageChanges.{PageChange, NewNode, new_node, new_element, new_links, is_current, is_node, is_old_element, are_old_links, if_so, when, on_graph, on_meta, joined, dropped, marked, linked, relisted, emptied, put_over, put, put_element, put_links, entered, hinted}
+use Rattle.page_redo.specs.PageChanges.{PageChange, NewNode, new_node, new_element, new_links, is_current, is_node, is_old_element, are_old_links, if_so, on_graph, on_meta, joined, dropped, marked, linked, relisted, emptied, put_over, put, put_element, put_links, entered, hinted}
 use Rattle.page_redo.specs.Redo.{at_one, at_two, changed, numbered}
 use Rattle.page_redo.proofs.ItemLaws.{whole_spelled}
 use Rattle.page_redo.proofs.Lengths.{length-element_bytes, element_long, meta_long}
 use Rattle.graph_pages.specs.Growing.{fresh_page}
-use Rattle.graph_pages.proofs.Given.{then_is, map_is, if_is, when_is, item_bytes, got_from_all}
+use Rattle.graph_pages.proofs.Given.{then_is, map_is, if_is, when_is, item_bytes}
 use Rattle.graph_pages.proofs.TwoItems.{none_or_some}
 use Rattle.graph_pages.proofs.MarkEffect.{two_same, two_first, two_second}
-use Rattle.graph_pages.proofs.SpelledBytes.{AllBytes, element_all, links_all, meta_all}
+use Rattle.graph_pages.proofs.SpelledBytes.{element_all, links_all, meta_all}
 
 -- ---- a page with another item, or one more
 

@@ -32,7 +32,7 @@ pub use fitting::{
 pub use following::follows;
 pub use graph_fault::GraphFault;
 pub use law::law_standing;
-pub use room::law_room;
+pub use room::{law_reuse, law_room};
 pub use standing::graph_of;
 
 #[cfg(test)]

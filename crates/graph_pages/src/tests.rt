@@ -5,7 +5,7 @@ use crate::{
     law_format, law_fresh, law_hint, law_hint_fits, law_join, law_join_fits, law_link,
     law_link_fits, law_mark, law_mark_fits, law_once, law_one_block, law_other_format, law_pages,
     law_put_again, law_put_again_fits, law_put_fresh_fits, law_put_new, law_put_new_fits, law_redo,
-    law_relist, law_relist_fits, law_room, law_standing,
+    law_relist, law_relist_fits, law_reuse, law_room, law_standing,
 };
 use bit_code::read_bits;
 use page_bytes::{Page, PageKind};
@@ -580,6 +580,7 @@ fn laws_are_called(_rt: HostRuntime) -> Result<(), Fail> {
     law_pages();
     law_other_format();
     law_room();
+    law_reuse();
     law_put_again();
     law_put_new();
     law_redo();

@@ -99,33 +99,38 @@ module _ (pages : List Content) (base : Graph) (acts : List Act) (desk : ℕ) (f
   link_fit : (at list_at : Tid) (version slot : ℕ) (to : Tid) → IsLinkAllowed base acts desk at list_at version slot to
       → Fit (Link at list_at version slot to)
   unfolding IsWritable
-  link_fit at list_at version slot to may =
-      ((has_list at list_at version may.owner may.there may.listed, known_below to (slot_layer g.params.m may.owner.level slot) may.known),
-      link_fits pages g all s at list_at to version slot may.owner may.there may.listed may.slot_is,
-      version_some at version may.owner may.there)
+  link_fit at list_at version slot to may = (
+    (has_list at list_at version may.owner may.there may.listed, known_below to (slot_layer g.params.m may.owner.level slot) may.known),
+    link_fits pages g all s at list_at to version slot may.owner may.there may.listed may.slot_is,
+    version_some at version may.owner may.there,
+  )
 
   relist_fit : (at list_at : Tid) (version : ℕ) (lists : List (Option Tid)) → IsRelistAllowed base acts desk at list_at version lists
       → Fit (Relist at list_at version lists)
   unfolding IsWritable
-  relist_fit at list_at version lists may =
-      ((has_list at list_at version may.owner may.there may.listed, members_below g.params.m may.owner.level lists may.known),
-      relist_fits pages g all s at list_at version lists may.owner may.there may.listed may.as_many,
-      (version_some at version may.owner may.there, omega (arith, may.as_many, slots_few at may.owner may.there.stands)))
+  relist_fit at list_at version lists may = (
+    (has_list at list_at version may.owner may.there may.listed, members_below g.params.m may.owner.level lists may.known),
+    relist_fits pages g all s at list_at version lists may.owner may.there may.listed may.as_many,
+    (version_some at version may.owner may.there, omega (arith, may.as_many, slots_few at may.owner may.there.stands)),
+  )
 
   drop_fit : (at : Tid) (version gone : ℕ) → IsDropAllowed base acts desk at version gone → Fit (Drop at version gone)
   unfolding IsWritable
   drop_fit at version gone may =
       let few_ids = (node_is at may.node may.there.stands).few in
-      let low : 1 ≤ gone = omega (arith, may.names_some) in
-      (tt, drop_fits pages g all s at version gone may.node may.there may.names_no_others,
-      (version_some at version may.node may.there, low, omega (arith, may.names_no_others, power_low (length may.node.ids) few_ids)))
+      let low : 1 ≤ gone = omega (arith, may.names_some) in (
+        tt,
+        drop_fits pages g all s at version gone may.node may.there may.names_no_others,
+        (version_some at version may.node may.there, low, omega (arith, may.names_no_others, power_low (length may.node.ids) few_ids)),
+      )
 
   mark_fit : (at list_at : Tid) (version : ℕ) → IsMarkAllowed base acts desk at list_at version → Fit (Mark at list_at version)
   unfolding IsWritable
-  mark_fit at list_at version may =
-      (has_list at list_at version may.node may.there may.listed,
-      mark_fits pages g all s at list_at version may.node may.there may.listed,
-      version_some at version may.node may.there)
+  mark_fit at list_at version may = (
+    has_list at list_at version may.node may.there may.listed,
+    mark_fits pages g all s at list_at version may.node may.there may.listed,
+    version_some at version may.node may.there,
+  )
 
   entry_fit : (to : Option Tid) (level : ℕ) → IsEntryAllowed base acts desk to level → Fit (Entry to level)
   unfolding IsWritable

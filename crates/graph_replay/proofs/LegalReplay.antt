@@ -86,11 +86,14 @@ module _ (base : Graph) (on : IsOnBlocks base) where
           subst (FollowInTurn 255 number (logged acts) pages) (sym same)
           (rest number pages format low legal_now allowed.1 (subst (λ (h : Graph). IsIndex pages h format) same index))
       by_test true is rest =
-          let fit = allowed_fits pages base before a.desk index.few index.bytes on legal index.stands a.event is allowed.0 in
-          (fit.0, fit.1, λ mid are.
-          let kept = one_event pages mid (after base before) format a.event 255 number low index fit.0 are in
-          subst (FollowInTurn 255 (next_number number) (logged acts) mid) (sym now)
-          (rest (next_number number) mid format (next_low number) legal_now allowed.1 (subst (λ (h : Graph). IsIndex mid h format) now kept)))
+          let fit = allowed_fits pages base before a.desk index.few index.bytes on legal index.stands a.event is allowed.0 in (
+            fit.0,
+            fit.1,
+            λ mid are.
+                let kept = one_event pages mid (after base before) format a.event 255 number low index fit.0 are in
+                subst (FollowInTurn 255 (next_number number) (logged acts) mid) (sym now)
+                (rest (next_number number) mid format (next_low number) legal_now allowed.1 (subst (λ (h : Graph). IsIndex mid h format) now kept)),
+          )
 
   module _ (acts : List Act) (legal : IsLegal base acts) (number : ℕ) (pages : List Content) (format : Option ℕ) (low : number < 2 ^ 64)
       (index : IsIndex pages base format) where

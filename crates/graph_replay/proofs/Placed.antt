@@ -133,10 +133,11 @@ module _ (pages : List Content) (g : Graph) (few : length pages ≤ MOST_BLOCKS)
     -- the places of a deleted node
     anew : (n : Node) → node_at g at ≡ Some n → n.deleted ≡ true → n.level ≡ level → n.list_at ≡ list_at → n.version ≡ version → Taken
     anew n stands gone of_level listed of_version =
-        let some = ((shaped pages g few all s).nodes at n stands).version_from_1 in
-        ((inl (record { node = n; stands = stands; listed = listed }), below_after),
-        put_old_fits pages g all s (new_node at list_at version level id bits lists) n stands listed gone of_version of_level as_long as_many,
-        omega (arith, some, of_version))
+        let some = ((shaped pages g few all s).nodes at n stands).version_from_1 in (
+          (inl (record { node = n; stands = stands; listed = listed }), below_after),
+          put_old_fits pages g all s (new_node at list_at version level id bits lists) n stands listed gone of_version of_level as_long as_many,
+          omega (arith, some, of_version),
+        )
 
     -- the next places of pages that have room
     next_places : (c d : Content) → 1 ≤ at.block → at.block < length pages → 1 ≤ list_at.block → list_at.block < length pages → version ≡ 1
@@ -157,11 +158,14 @@ module _ (pages : List Content) (g : Graph) (few : length pages ≤ MOST_BLOCKS)
         let long = ap (λ (e : Content). length e.items) one in omega (arith, off, long)) in
         let list_none : item_in pages list_at ≡ None = no_item list_at (λ e is. let one = same_Some d e (sym list_there ∙ is) in
         let long = ap (λ (e : Content). length e.items) one in omega (arith, list_off, long)) in
-        let high : level ≤ 255 = omega (arith, not_high) in
-        ((inr (record { none = none; no_list = list_none; next = inl (omega (arith, within, list_within)); version_high = omega (arith, first); level_high = high }),
-        below_after),
-        put_new_fits pages g all s (new_node at list_at version level id bits lists) low list_low (omega (arith, first)) as_long as_many few_slots (here, list_here),
-        omega (arith, first))
+        let high : level ≤ 255 = omega (arith, not_high) in (
+          (
+            inr (record { none = none; no_list = list_none; next = inl (omega (arith, within, list_within)); version_high = omega (arith, first); level_high = high }),
+            below_after,
+          ),
+          put_new_fits pages g all s (new_node at list_at version level id bits lists) low list_low (omega (arith, first)) as_long as_many few_slots (here, list_here),
+          omega (arith, first),
+        )
 
     together : 1 ≤ at.block → at.block < g.blocks → (b : ℕ) → b ≡ at.block → together_on g b level ≡ Some spot → Taken
     together low high b here is =
@@ -238,11 +242,14 @@ module _ (pages : List Content) (g : Graph) (few : length pages ≤ MOST_BLOCKS)
 
         behind : version ≡ 1 → length pages ≤ at.block → length pages ≤ list_at.block → AreNextBlocks (length pages) at.block list_at.block → Taken
         behind first past list_past next =
-            let high : level ≤ 255 = omega (arith, not_high) in
-            ((inr (record { none = no_page at past; no_list = no_page list_at list_past; next = next; version_high = omega (arith, first); level_high = high }),
-            below_after),
-            put_fresh_fits pages g all s spot level id bits lists is as_long as_many few_slots,
-            omega (arith, first))
+            let high : level ≤ 255 = omega (arith, not_high) in (
+              (
+                inr (record { none = no_page at past; no_list = no_page list_at list_past; next = next; version_high = omega (arith, first); level_high = high }),
+                below_after,
+              ),
+              put_fresh_fits pages g all s spot level id bits lists is as_long as_many few_slots,
+              omega (arith, first),
+            )
 
     pub placed : IsPlaced g at level spot → Taken
     placed (inl is) =

@@ -46,19 +46,21 @@ each_changed change pages (a ∷ blocks) fits =
     let f = fits a (first_in a blocks) in
     let within : a < length rest.0 = omega (arith, slice_get_within pages a f.0 f.1, rest.1.count) in
     let old = get_or rest.0 a f.0 in
-    let now : slice_get (slice_set rest.0 a f.2) a ≡ Some f.2 = set_here rest.0 a old f.2 (slice_get-get_or rest.0 a f.0 within) in
-    (slice_set rest.0 a f.2, record {
-      count = length-set rest.0 a f.2 ∙ rest.1.count;
-      there = λ block page touches is. elim (cases_eq a block) as (λ _. slice_get (slice_set rest.0 a f.2) block ≡ change block page) [
-        | inl same ↦
-            let one : f.0 ≡ page = some_is f.0 page (sym f.1 ∙ ap (slice_get pages) same ∙ is) in
-            ap (slice_get (slice_set rest.0 a f.2)) (sym same) ∙ now ∙ sym f.3 ∙ ap (λ (b : ℕ). change b f.0) same ∙ ap (change block) one
-        | inr apart ↦ set_apart rest.0 a block f.2 apart ∙ rest.1.there block page (behind a block blocks apart touches) is
-      ];
-      elsewhere = λ block apart.
-          set_apart rest.0 a block f.2 (λ same. apart (subst (λ (b : ℕ). Contains (a ∷ blocks) b) same (first_in a blocks)))
-          ∙ rest.1.elsewhere block (λ touches. apart (further_in a block blocks touches));
-    })
+    let now : slice_get (slice_set rest.0 a f.2) a ≡ Some f.2 = set_here rest.0 a old f.2 (slice_get-get_or rest.0 a f.0 within) in (
+      slice_set rest.0 a f.2,
+      record {
+        count = length-set rest.0 a f.2 ∙ rest.1.count;
+        there = λ block page touches is. elim (cases_eq a block) as (λ _. slice_get (slice_set rest.0 a f.2) block ≡ change block page) [
+          | inl same ↦
+              let one : f.0 ≡ page = some_is f.0 page (sym f.1 ∙ ap (slice_get pages) same ∙ is) in
+              ap (slice_get (slice_set rest.0 a f.2)) (sym same) ∙ now ∙ sym f.3 ∙ ap (λ (b : ℕ). change b f.0) same ∙ ap (change block) one
+          | inr apart ↦ set_apart rest.0 a block f.2 apart ∙ rest.1.there block page (behind a block blocks apart touches) is
+        ];
+        elsewhere = λ block apart.
+            set_apart rest.0 a block f.2 (λ same. apart (subst (λ (b : ℕ). Contains (a ∷ blocks) b) same (first_in a blocks)))
+            ∙ rest.1.elsewhere block (λ touches. apart (further_in a block blocks touches));
+      },
+    )
 
 pub redone_there : (pages : List Content) (params : Params) (event : Event) (wrap number : ℕ) → FitsEach pages params event
     → (after : List Content) × AreAllRedone params wrap number event pages after

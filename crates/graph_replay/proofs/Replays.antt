@@ -105,9 +105,12 @@ replay_joined params wrap number [] fs pages mid after low f h =
 replay_joined params wrap number (e ∷ es) fs pages mid after low f h =
     let long : length (e ∷ es) ≡ length es + 1 = omega arith in
     let same : (number + length (e ∷ es)) % 2 ^ 64 ≡ (next_number number + length es) % 2 ^ 64 =
-    ap (λ n. (number + n) % 2 ^ 64) long ∙ sym (next_of number (length es) low) in
-    (f.0, f.1, replay_joined params wrap (next_number number) es fs f.0 mid after (next_low number) f.2
-    (subst (λ (n : ℕ). Replayed params wrap n fs mid after) same h))
+    ap (λ n. (number + n) % 2 ^ 64) long ∙ sym (next_of number (length es) low) in (
+      f.0,
+      f.1,
+      replay_joined params wrap (next_number number) es fs f.0 mid after (next_low number) f.2
+          (subst (λ (n : ℕ). Replayed params wrap n fs mid after) same h),
+    )
 
 pub replay_parted : (params : Params) (wrap number : ℕ) (es fs : List Event) (pages after : List Content) → number < 2 ^ 64
     → Replayed params wrap number (es ++ fs) pages after

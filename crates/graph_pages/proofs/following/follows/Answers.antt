@@ -1,4 +1,4 @@
-use Rattle.std.proofs.Common.{◌≡◌, ◌≤◌, ap, subst, sym, arith, IsTrue}
+use Rattle.std.proofs.Common.{◌≤◌, arith}
 use Rattle.graph_pages.proofs.FollowLaws.{mark_told, entry_told, link_told, relist_told, put_told, put_refused}
 use Rattle.graph_pages.proofs.following.follows.Goals as goal
 
