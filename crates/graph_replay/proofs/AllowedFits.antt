@@ -1,11 +1,9 @@
 -- An event that the rules allow after a legal history follows on pages that stand for the graph there, and fits them.
-use Rattle.std.proofs.Common.{◌≡◌, inl, inr, ℕ, zero, suc, ◌+◌, ◌*◌, ◌^◌, ◌<◌, ◌≤◌, Bool, true, false, List, length, take, Option, Some, None, refl, sym, ap, subst, ◌∙◌, arith}
-use Rattle.std.specs.Prelude.{slice_get}
+use Rattle.std.proofs.Common.{◌≡◌, ℕ, ◌^◌, ◌<◌, ◌≤◌, Bool, true, List, length, take, Option, Some, None, refl, subst, arith}
 use Rattle.std.proofs.Math.Nat.{pow-le-pow_right}
 use Rattle.std.proofs.lemmas.Bool.{eq-eqb}
 use Rattle.std.specs.List.{All}
 use Rattle.index_sizes.specs.declared.limits.TheConstants.{MOST_BLOCKS, MOST_SLOTS}
-use Rattle.index_sizes.specs.Sizes.{slots_of_level}
 use Rattle.byte_fields.specs.Levels.{is_level}
 use Rattle.byte_fields.proofs.EachField.{some_is}
 use Rattle.vec_names.specs.declared.tid.Tid.{Tid}
@@ -22,8 +20,8 @@ use Rattle.vec_graph.specs.Graph.{node_at, slot_layer, HasLevel}
 use Rattle.vec_graph.specs.Places.{IsOnBlocks}
 use Rattle.vec_graph.specs.Effect.{after, state_after}
 use Rattle.vec_graph.specs.Knowing.{Knows}
-use Rattle.vec_graph.specs.Shaped.{IsShaped, IsShapedNode}
-use Rattle.vec_graph.specs.Rules.{KnowsMembers, IsThere, IsPutAllowed, IsJoinAllowed, IsLinkAllowed, IsRelistAllowed, IsDropAllowed, IsMarkAllowed, IsEntryAtAllowed, IsNoEntryAllowed, IsEntryAllowed, IsHintAllowed, IsEventAllowed}
+use Rattle.vec_graph.specs.Shaped.{IsShapedNode}
+use Rattle.vec_graph.specs.Rules.{KnowsMembers, IsThere, IsPutAllowed, IsJoinAllowed, IsLinkAllowed, IsRelistAllowed, IsDropAllowed, IsMarkAllowed, IsEntryAllowed, IsHintAllowed, IsEventAllowed}
 use Rattle.vec_graph.specs.Legal.{IsLegal}
 use Rattle.vec_graph.proofs.Placing.{on_blocks_after}
 use Rattle.vec_graph.proofs.Levels.{level_stays}

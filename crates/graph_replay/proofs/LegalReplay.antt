@@ -1,10 +1,7 @@
 -- The lasting events of a legal history follow in turn on pages that stand for its base.
-use Rattle.std.proofs.Common.{◌≡◌, ℕ, ◌+◌, ◌%◌, ◌^◌, ◌<◌, ◌≤◌, Bool, true, false, cond, List, [], ◌∷◌, ◌++◌, length, take, drop, filter, map, Option, refl, sym, ap, subst, ◌∙◌, arith}
-use Rattle.std.specs.List.{All}
-use Rattle.std.proofs.lemmas.List.{map-append, append_assoc, take-append-drop}
+use Rattle.std.proofs.Common.{◌≡◌, ℕ, ◌^◌, ◌<◌, Bool, true, false, cond, List, [], ◌∷◌, ◌++◌, take, drop, filter, map, Option, refl, sym, ap, subst, ◌∙◌}
+use Rattle.std.proofs.lemmas.List.{map-append, take-append-drop}
 use Rattle.std.proofs.lemmas.List.Elements.{filter-append}
-use Rattle.index_sizes.specs.declared.limits.TheConstants.{MOST_BLOCKS}
-use Rattle.vec_names.specs.declared.params.Params.{Params}
 use Rattle.vec_history.specs.declared.event.Event.{Event}
 use Rattle.vec_history.specs.declared.event.Event.TheVariants.{Put, Join, Link, Relist, Drop, Mark, Entry, Hint, IvfAdd, IvfGrow, IvfDrop, IvfHint, Gate, Ungate, Phase, VacuumEnd, Cancel, Settled, DiskFaulted}
 use Rattle.vec_history.specs.declared.event.Act.{Act}
@@ -17,11 +14,6 @@ use Rattle.vec_graph.specs.Places.{IsOnBlocks}
 use Rattle.vec_graph.specs.Effect.{effect, after, state_after}
 use Rattle.vec_graph.specs.Legal.{IsAllowed, IsLegal}
 use Rattle.vec_graph.proofs.Levels.{after_append}
-use Rattle.graph_pages.specs.Standing.{Stands}
-use Rattle.graph_pages.specs.Following.{Follows}
-use Rattle.graph_pages.specs.Fitting.{FitsEach}
-use Rattle.graph_pages.specs.Growing.{AreAllRedone}
-use Rattle.graph_pages.proofs.StandingShape.{on_blocks}
 use Rattle.graph_replay.specs.Replaying.{next_number, effects, logged, Replayed, FollowInTurn}
 use Rattle.graph_replay.proofs.Replays.{IsIndex, next_low, one_event, replay_there, replay_effect, replay_parted}
 use Rattle.graph_replay.proofs.AllowedFits.{allowed_fits}

@@ -1,8 +1,8 @@
 -- A new node at the place that the graph gives follows on the pages, and fits them.
-use Rattle.std.proofs.Common.{◌≡◌, inl, inr, ◌⊎◌, ℕ, ◌+◌, ◌-◌, ◌*◌, ◌/◌, ◌<◌, ◌≤◌, ◌==◌, ◌&&◌, min, max, Bool, true, false, cond, List, [], find, length, replicate, get_or, Option, Some, None, refl, sym, ap, subst, ◌∙◌, arith}
+use Rattle.std.proofs.Common.{◌≡◌, inl, inr, ℕ, ◌+◌, ◌-◌, ◌*◌, ◌/◌, ◌<◌, ◌≤◌, ◌==◌, ◌&&◌, Bool, true, false, cond, List, find, length, replicate, get_or, Option, Some, None, refl, sym, ap, ◌∙◌, arith}
 use Rattle.std.specs.Prelude.{slice_get, nat_le, nat_lt}
 use Rattle.std.specs.List.{All}
-use Rattle.std.specs.Option.{option_or, option_and_then}
+use Rattle.std.specs.Option.{option_or}
 use Rattle.std.specs.FinMap as fin
 use Rattle.std.proofs.Math.Nat.{div-mul-le_self, mul-le-mul_right}
 use Rattle.std.proofs.lemmas.Nat.{le-div}
@@ -28,15 +28,14 @@ use Rattle.vec_graph.specs.declared.place.Place.{Place}
 use Rattle.vec_graph.specs.declared.node.Node.{Node}
 use Rattle.vec_graph.specs.declared.graph.Graph.{Graph}
 use Rattle.vec_graph.specs.Graph.{node_at}
-use Rattle.vec_graph.specs.Places.{one_if, element_need, list_need, room, next_off, fresh_place, fresh_at, fits_one_page, is_reusable, reused, together_on, apart_on, fresh_on, place_on, new_blocks, new_place}
+use Rattle.vec_graph.specs.Places.{one_if, element_need, list_need, room, next_off, fresh_place, fresh_at, fits_one_page, is_reusable, reused, together_on, apart_on, fresh_on, new_place}
 use Rattle.vec_graph.specs.Rules.{IsPlaced}
 use Rattle.vec_graph.proofs.Placing.{stands_there, passes_there}
-use Rattle.page_redo.specs.PageTuples.{is_graph}
 use Rattle.page_redo.specs.PageChanges.{new_node}
 use Rattle.graph_pages.specs.Standing.{item_in, Stands}
 use Rattle.graph_pages.specs.Growing.{fresh_page, blocks_after, extended}
-use Rattle.graph_pages.specs.Fitting.{FitsEach, IsNextPlace, AreNextPlaces}
-use Rattle.graph_pages.specs.Following.{AreBelow, HasList, AreNextBlocks, AreNewPlaces, Follows}
+use Rattle.graph_pages.specs.Fitting.{FitsEach, IsNextPlace}
+use Rattle.graph_pages.specs.Following.{AreBelow, AreNextBlocks, Follows}
 use Rattle.graph_pages.proofs.Given.{then_is, if_is}
 use Rattle.graph_pages.proofs.PagePlaces.{item_within}
 use Rattle.graph_pages.proofs.FreshPages.{get_front}

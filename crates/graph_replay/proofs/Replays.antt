@@ -10,10 +10,9 @@ use Rattle.vec_graph.specs.declared.graph.Graph.{Graph}
 use Rattle.vec_graph.specs.Effect.{effect, joined, linked, relisted, dropped, marked}
 use Rattle.vec_graph.proofs.Remaining.{params_changed}
 use Rattle.graph_pages.specs.Standing.{Stands}
-use Rattle.graph_pages.specs.Effects.{AreRedone, format_in}
+use Rattle.graph_pages.specs.Effects.{format_in}
 use Rattle.graph_pages.specs.Growing.{extended, AreAllRedone}
 use Rattle.graph_pages.specs.Following.{Follows}
-use Rattle.graph_pages.specs.Fitting.{FitsEach}
 use Rattle.graph_pages.proofs.RedoEffect.{redo_effect}
 use Rattle.graph_pages.proofs.BlocksKept.{blocks_kept}
 use Rattle.graph_pages.proofs.RedoneOnce.{redone_once}

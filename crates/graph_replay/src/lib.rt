@@ -13,3 +13,5 @@ pub use allowed::law_allowed;
 pub use legal::law_legal_replay;
 pub use replaying::{law_fronts, law_replay};
 
+#[cfg(test)]
+mod tests;
