@@ -19,3 +19,5 @@ pub mod ListBytes
 pub mod PagesKept
 pub mod Replays
 pub mod SmallIndex
+pub mod RedoneThere
+pub mod LegalReplay
