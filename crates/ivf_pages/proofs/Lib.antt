@@ -1,6 +1,7 @@
 pub mod Given
 pub mod RowRoom
 pub mod RowsThere
+pub mod OwnBlocks
 pub mod Chains
 pub mod Root
 pub mod Ended
