@@ -22,3 +22,4 @@ pub mod Replays
 pub mod SmallIndex
 pub mod RedoneThere
 pub mod LegalReplay
+pub mod RootKept

@@ -155,10 +155,11 @@ module _ (p : Params) (pages : List Content) (g : IvfGraph) (s : Stands p pages 
       let low : k < p.lists = omega (arith, slice_get_within g.lists k x here, s.count) in
       let numbers = chain_numbers k x here in
       let all = map-append (λ (q : Part). q.0) x.chain (flat_map (λ (l : IvfList). l.chain) xs) in
-      let first = map (λ (q : Part). q.0) x.chain in
-      (subst (IsDistinct eqb) (sym all) (apart_append first (numbers_in xs) (subst (IsDistinct eqb) (sym numbers) (chain_distinct (centre_in p pages k))) rest.0
-      (λ b is. not_rest b (sym (ap (is_among b) numbers) ∙ is) low rest.1 (is_among b (numbers_in xs)) refl)),
-      λ b is. by_first b low numbers rest.1 (is_among b first) refl (sym (ap (is_among b) all ∙ list_any-append (λ (n : ℕ). n == b) first (numbers_in xs)) ∙ is))
+      let first = map (λ (q : Part). q.0) x.chain in (
+        subst (IsDistinct eqb) (sym all) (apart_append first (numbers_in xs) (subst (IsDistinct eqb) (sym numbers) (chain_distinct (centre_in p pages k))) rest.0
+            (λ b is. not_rest b (sym (ap (is_among b) numbers) ∙ is) low rest.1 (is_among b (numbers_in xs)) refl)),
+        λ b is. by_first b low numbers rest.1 (is_among b first) refl (sym (ap (is_among b) all ∙ list_any-append (λ (n : ℕ). n == b) first (numbers_in xs)) ∙ is),
+      )
     where
       not_rest : (b : ℕ) → is_among b (chain_in p pages k) ≡ true → k < p.lists → ((b : ℕ) → is_among b (numbers_in xs) ≡ true → HasOwner (k + 1) b)
           → (t : Bool) → is_among b (numbers_in xs) ≡ t → t ≡ false

@@ -32,29 +32,34 @@ module _ (make : ℕ → Content → Option Content) (pages : List Content) wher
   of_two a blocks block (suc i, h, is) apart = (i, omega (arith, h), is)
 
   made_at : (blocks : List ℕ) → Makes blocks → (after : List Content) × IsMadeAt make blocks pages after
-  made_at [] makes = (pages, record {
-    count = refl;
-    there = λ block page has is. absurd (omega (arith, has.1));
-    elsewhere = λ block apart. refl;
-  })
+  made_at [] makes = (
+    pages,
+    record {
+      count = refl;
+      there = λ block page has is. absurd (omega (arith, has.1));
+      elsewhere = λ block apart. refl;
+    },
+  )
   made_at (a ∷ blocks) makes =
       let rest = made_at blocks (λ block has. makes block (later a blocks block has)) in
       let m = makes a (0, omega arith, refl) in
       let after = slice_set rest.0 a m.2 in
       let was = slice_get-get_or rest.0 a m.2 (omega (arith, slice_get_within pages a m.0 m.1, rest.1.count)) in
-      let here : slice_get after a ≡ Some m.2 = set_here rest.0 a (get_or rest.0 a m.2) m.2 was in
-      (after, record {
-        count = length-set rest.0 a m.2 ∙ rest.1.count;
-        there = λ block page has is. elim (cases_eq a block) as (λ _. slice_get after block ≡ make block page) [
-          | inl same ↦
-              let page_is : m.0 ≡ page = some_is m.0 page (sym m.1 ∙ ap (slice_get pages) same ∙ is) in
-              ap (slice_get after) (sym same) ∙ here ∙ sym m.3 ∙ ap (make a) page_is ∙ ap (λ (n : ℕ). make n page) same
-          | inr apart ↦ set_apart rest.0 a block m.2 apart ∙ rest.1.there block page (of_two a blocks block has apart) is
-        ];
-        elsewhere = λ block out.
-            set_apart rest.0 a block m.2 (λ same. out (0, omega arith, same))
-            ∙ rest.1.elsewhere block (λ has. out (later a blocks block has));
-      })
+      let here : slice_get after a ≡ Some m.2 = set_here rest.0 a (get_or rest.0 a m.2) m.2 was in (
+        after,
+        record {
+          count = length-set rest.0 a m.2 ∙ rest.1.count;
+          there = λ block page has is. elim (cases_eq a block) as (λ _. slice_get after block ≡ make block page) [
+            | inl same ↦
+                let page_is : m.0 ≡ page = some_is m.0 page (sym m.1 ∙ ap (slice_get pages) same ∙ is) in
+                ap (slice_get after) (sym same) ∙ here ∙ sym m.3 ∙ ap (make a) page_is ∙ ap (λ (n : ℕ). make n page) same
+            | inr apart ↦ set_apart rest.0 a block m.2 apart ∙ rest.1.there block page (of_two a blocks block has apart) is
+          ];
+          elsewhere = λ block out.
+              set_apart rest.0 a block m.2 (λ same. out (0, omega arith, same))
+              ∙ rest.1.elsewhere block (λ has. out (later a blocks block has));
+        },
+      )
 
 pub redone_there : (p : Params) (wrap number : ℕ) (event : Event) (pages : List Content) → FitsEach pages p event
     → (after : List Content) × AreAllRedone p wrap number event pages after

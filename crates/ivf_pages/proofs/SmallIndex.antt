@@ -173,7 +173,7 @@ module _ (bits : List Bool) (id : HeapId) (value : List Bool) (four : length bit
 
   -- one tuple too many
   pub two_tuples : IsFirstBroken (meta_page ∷ record (list_page 2 2 bits) {
-    items = centre_bytes (centre_with 2 2 bits) ∷ centre_bytes (centre_with 2 2 bits) ∷ []
+    items = centre_bytes (centre_with 2 2 bits) ∷ centre_bytes (centre_with 2 2 bits) ∷ [];
   } ∷ row_page None id value ∷ []) 1
   two_tuples = record {
     broken = λ keeps.
