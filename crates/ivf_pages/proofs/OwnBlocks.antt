@@ -1,5 +1,5 @@
 -- The blocks of all chains are apart, and below the number of blocks.
-use Rattle.std.proofs.Common.{◌≡◌, ℕ, zero, suc, ◌+◌, ◌<◌, ◌≤◌, ◌&&◌, ◌||◌, ◌==◌, eqb, not, Bool, true, false, List, [], ◌∷◌, ◌++◌, map, length, get_or, Option, Some, None, refl, sym, ap, ap₂, subst, ◌∙◌, arith, inl, inr}
+use Rattle.std.proofs.Common.{◌≡◌, ℕ, zero, suc, ◌+◌, ◌<◌, ◌≤◌, ◌||◌, ◌==◌, eqb, not, Bool, true, false, List, [], ◌∷◌, ◌++◌, map, length, Option, Some, None, refl, sym, ap, ap₂, subst, ◌∙◌, arith}
 use Rattle.std.specs.Prelude.{slice_get, if◌then◌else◌, flat_map}
 use Rattle.std.specs.List.{All, AllByRecursion, IsDistinct}
 use Rattle.std.proofs.lemmas.Bool.{and_parts, eqb-true, eq-eqb, or_parts}
@@ -9,13 +9,13 @@ use Rattle.std.proofs.lemmas.List.Folds.{list_any-append}
 use Rattle.std.proofs.lemmas.Map.Keys.{IsDistinct-cons, IsDistinct-head, IsDistinct-tail}
 use Rattle.std.proofs.lemmas.Option.{slice_get_within}
 use Rattle.vec_names.specs.declared.params.Params.{Params}
-use Rattle.page_bytes.specs.Content.{Content, IsPage}
+use Rattle.page_bytes.specs.Content.{Content}
 use Rattle.vec_tuples.specs.declared.centre.CentreTuple.{CentreTuple}
 use Rattle.ivf_graph.specs.declared.list.IvfList.{IvfList}
 use Rattle.ivf_graph.specs.declared.graph.IvfGraph.{IvfGraph}
-use Rattle.ivf_graph.specs.Graph.{Part, parts, block_numbers, AreBlocksOwn}
+use Rattle.ivf_graph.specs.Graph.{Part, block_numbers, AreBlocksOwn}
 use Rattle.page_redo.specs.PageTuples.{is_entries_page}
-use Rattle.ivf_pages.specs.Standing.{is_among, has_entries, next_of, goes_to, followed, centre_in, chain_from, chain_of, chain_in, part_in, list_with, Stands}
+use Rattle.ivf_pages.specs.Standing.{is_among, has_entries, next_of, goes_to, followed, centre_in, chain_from, chain_of, chain_in, part_in, Stands}
 use Rattle.ivf_pages.proofs.Given.{or_parts_of}
 use Rattle.ivf_pages.proofs.Chains.{among_chain, entries_there}
 use Rattle.ivf_pages.proofs.Root.{entries_behind}

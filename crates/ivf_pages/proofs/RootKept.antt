@@ -1,5 +1,5 @@
 -- Redo of an event that follows leaves block 0.
-use Rattle.std.proofs.Common.{◌≡◌, ℕ, ◌+◌, ◌-◌, ◌<◌, ◌&&◌, ◌==◌, not, Bool, true, false, List, ◌++◌, length, replicate, get_or, Option, Some, None, sym, subst, ◌∙◌, arith, inl, inr}
+use Rattle.std.proofs.Common.{◌≡◌, ℕ, ◌-◌, ◌<◌, ◌&&◌, ◌==◌, not, Bool, true, false, List, length, replicate, get_or, Some, None, sym, subst, ◌∙◌, arith, inl, inr}
 use Rattle.std.specs.Prelude.{slice_get, if◌then◌else◌, nat_lt}
 use Rattle.std.specs.Option.{option_map, option_and_then}
 use Rattle.std.proofs.lemmas.Bool.{and_parts}
@@ -14,7 +14,7 @@ use Rattle.vec_tuples.specs.Spelling.{centre_with, centre_bytes, entry_bytes, ro
 use Rattle.ivf_graph.specs.declared.graph.IvfGraph.{IvfGraph}
 use Rattle.page_redo.specs.PageTuples.{added, with_item, centre_at, is_graph, is_meta_page, is_lists_page, is_entries_page}
 use Rattle.page_redo.specs.PageChanges.{PageChange, when, if_so, on_entries, entry_added, grown, chained, rises, entries_dropped, list_block, list_offset, aimed}
-use Rattle.page_redo.specs.Redo.{at_one, at_two, changed, touched}
+use Rattle.page_redo.specs.Redo.{changed, touched}
 use Rattle.graph_pages.specs.Growing.{fresh_page, new_kind, blocks_after, extended, AreAllRedone}
 use Rattle.graph_pages.proofs.Given.{if_is, then_is}
 use Rattle.graph_pages.proofs.FreshPages.{get_front}
