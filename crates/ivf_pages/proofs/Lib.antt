@@ -1,6 +1,7 @@
 pub mod Given
 pub mod RowRoom
 pub mod RowsThere
+pub mod OwnBlocks
 pub mod Chains
 pub mod Root
 pub mod Ended
@@ -19,3 +20,6 @@ pub mod ListBytes
 pub mod PagesKept
 pub mod Replays
 pub mod SmallIndex
+pub mod RedoneThere
+pub mod LegalReplay
+pub mod RootKept

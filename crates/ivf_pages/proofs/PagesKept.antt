@@ -201,7 +201,7 @@ all_from P xs each k d h = each k (get_or xs k d) (slice_get-get_or xs k d h)
 
 module _ (p : Params) (pages after : List Content) (event : Event) (wrap number : ℕ) (are : AreAllRedone p wrap number event pages after) where
   -- the page of a block that the event touches was redone
-  made_from : (block : ℕ) (d : Content) → Contains (touched event p) block → slice_get after block ≡ Some d
+  pub made_from : (block : ℕ) (d : Content) → Contains (touched event p) block → slice_get after block ≡ Some d
       → (c : Content) × (slice_get (extended event pages) block ≡ Some c) × (m : Content) × (changed event p wrap block c ≡ Some m) × (numbered number m ≡ d)
   made_from block d touches is =
       let none = fresh_page (new_kind event) in

@@ -76,7 +76,7 @@ allowed_follows g acts desk (Settled upto) may lasts = absurd cc
 allowed_follows g acts desk (DiskFaulted count) may lasts = absurd cc
 
 -- a passing event leaves the index
-passing_stays : (g : IvfGraph) (event : Event) → is_lasting event ≡ false → effect event g ≡ g
+pub passing_stays : (g : IvfGraph) (event : Event) → is_lasting event ≡ false → effect event g ≡ g
 passing_stays g (Put at list_at version level id bits lists) passes = absurd cc
 passing_stays g (Join at version id) passes = absurd cc
 passing_stays g (Link at list_at version slot to) passes = absurd cc

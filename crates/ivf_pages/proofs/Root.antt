@@ -61,7 +61,7 @@ in_range pages p all is =
 
 -- ---- kinds
 
-no_meta : (k : PageKind) → is_entries_page k ≡ true → is_meta_page k ≡ true → ⊥
+pub no_meta : (k : PageKind) → is_entries_page k ≡ true → is_meta_page k ≡ true → ⊥
 no_meta MetaPage a b = absurd cc
 no_meta Hnsw a b = absurd cc
 no_meta IvfLists a b = absurd cc
@@ -79,7 +79,7 @@ no_entries Hnsw a = absurd cc
 no_entries IvfLists a = refl
 no_entries IvfEntries a = absurd cc
 
-no_meta_lists : (k : PageKind) → is_lists_page k ≡ true → is_meta_page k ≡ true → ⊥
+pub no_meta_lists : (k : PageKind) → is_lists_page k ≡ true → is_meta_page k ≡ true → ⊥
 no_meta_lists MetaPage a b = absurd cc
 no_meta_lists Hnsw a b = absurd cc
 no_meta_lists IvfLists a b = absurd cc

@@ -1,16 +1,14 @@
 -- The small index stands on its pages, and pages near it break at their blocks.
-use Rattle.std.proofs.Common.{◌≡◌, ℕ, zero, suc, ◌+◌, ◌-◌, ◌^◌, ◌<◌, ◌≤◌, ◌&&◌, ◌==◌, Bool, true, false, List, [], ◌∷◌, ◌++◌, length, Option, Some, None, refl, sym, ap, ap₂, subst, ◌∙◌, arith, lit<, lit≤}
+use Rattle.std.proofs.Common.{◌≡◌, ℕ, zero, suc, ◌^◌, ◌<◌, Bool, true, false, List, [], ◌∷◌, ◌++◌, length, Option, Some, None, refl, sym, ap, subst, ◌∙◌, arith, lit<, lit≤}
 use Rattle.std.specs.Prelude.{slice_get}
-use Rattle.std.specs.List.{list_all, filter_map, cons_option}
+use Rattle.std.specs.List.{list_all, cons_option}
 use Rattle.std.specs.Option.{option_map, option_and_then, is_some}
 use Rattle.std.proofs.lemmas.Bool.{and_from}
 use Rattle.byte_fields.proofs.EachField.{some_is}
 use Rattle.vec_names.specs.declared.heap_id.HeapId.{HeapId}
-use Rattle.vec_names.specs.declared.params.Params.{Params}
 use Rattle.vec_names.specs.Params.{IsInRange}
 use Rattle.page_bytes.specs.Content.{Content}
 use Rattle.vec_tuples.specs.declared.entry.EntryRow.{EntryRow}
-use Rattle.vec_tuples.specs.declared.centre.CentreTuple.{CentreTuple}
 use Rattle.vec_tuples.specs.Spelling.{IsMeta, meta_bytes, centre_with, centre_bytes, entry_bytes, row_with as entry_with}
 use Rattle.vec_tuples.specs.Reading.{meta, centre, entry}
 use Rattle.vec_tuples.proofs.MetaLaws.{meta_field}
@@ -20,7 +18,7 @@ use Rattle.page_bytes.specs.declared.kind.PageKind.TheVariants.{IvfEntries}
 use Rattle.page_redo.specs.PageTuples.{in_whole}
 use Rattle.graph_pages.specs.Growing.{fresh_page}
 use Rattle.page_redo.proofs.ItemLaws.{whole_read}
-use Rattle.ivf_pages.specs.Standing.{of_lists, params_on, params_in, is_among, centre_in, chain_of, chain_in, ends_at, has_aim, is_entry, row_in, row_with, rows_of, list_with, list_in, IsInOneChain, IsListPage, IsEntryPage, KeepsRulesOf, KeepsRulesUnder, KeepsRules, IsFirstBroken, Stands}
+use Rattle.ivf_pages.specs.Standing.{of_lists, params_in, is_among, centre_in, chain_of, chain_in, ends_at, has_aim, is_entry, row_with, rows_of, list_with, list_in, IsInOneChain, IsListPage, IsEntryPage, KeepsRulesOf, KeepsRulesUnder, KeepsRules, IsFirstBroken, Stands}
 use Rattle.ivf_pages.specs.Examples.{small_params, small_meta, meta_page, list_page, row_page, small_pages, small_index}
 
 small_range : IsInRange small_params
@@ -173,7 +171,7 @@ module _ (bits : List Bool) (id : HeapId) (value : List Bool) (four : length bit
 
   -- one tuple too many
   pub two_tuples : IsFirstBroken (meta_page ∷ record (list_page 2 2 bits) {
-    items = centre_bytes (centre_with 2 2 bits) ∷ centre_bytes (centre_with 2 2 bits) ∷ []
+    items = centre_bytes (centre_with 2 2 bits) ∷ centre_bytes (centre_with 2 2 bits) ∷ [];
   } ∷ row_page None id value ∷ []) 1
   two_tuples = record {
     broken = λ keeps.

@@ -1,6 +1,6 @@
 -- A small index of lists as pages: values of four places, one list, one row. Its blocks: the meta tuple, the list's tuple, and the
 -- row's entry.
-use Rattle.std.specs.Prelude.{◌≡◌, ℕ, Bool, List, [], ◌∷◌, ◌++◌, Option, Some, None}
+use Rattle.std.specs.Prelude.{ℕ, Bool, List, [], ◌∷◌, Option, None}
 use Rattle.vec_names.specs.declared.heap_id.HeapId.{HeapId}
 use Rattle.vec_names.specs.declared.params.Kind.TheVariants.{Ivf}
 use Rattle.vec_names.specs.declared.params.Ops.TheVariants.{Hamming}

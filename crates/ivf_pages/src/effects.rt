@@ -72,3 +72,9 @@ pub fn law_pages()
         → AreAllRedone p wrap number event pages after → Contains (touched event p) block → slice_get after block ≡ Some page
         → page.number ≡ number }
 {}
+
+/// A law, and no work. Redo of an event that follows leaves block 0: the parameters of the index, and the format of its meta tuple.
+pub fn law_root()
+    ensures { (p : AnyParams) (pages after : List Content) (g : IvfGraph) (event : Events) (wrap number : ℕ) → Stands p pages g
+        → Follows g event → AreAllRedone p wrap number event pages after → slice_get after 0 ≡ slice_get pages 0 }
+{}

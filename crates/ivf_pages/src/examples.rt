@@ -19,8 +19,10 @@ pub fn law_examples()
         → Stands small_params (small_pages centre id bits) (small_index centre id bits) }
     ensures missing { IsFirstBroken (meta_page ∷ []) 1 }
     ensures too_many { (centre : List Bool) (id : HeapId) (bits : List Bool) → length centre ≡ 4 → length bits ≡ 4
-        → IsFirstBroken (meta_page ∷ record (list_page 2 2 centre) { items = centre_bytes (centre_with 2 2 centre)
-        ∷ centre_bytes (centre_with 2 2 centre) ∷ [] } ∷ row_page None id bits ∷ []) 1 }
+        → IsFirstBroken (meta_page ∷ record (list_page 2 2 centre) {
+          items = centre_bytes (centre_with 2 2 centre)
+              ∷ centre_bytes (centre_with 2 2 centre) ∷ [];
+        } ∷ row_page None id bits ∷ []) 1 }
     ensures other_aim { (centre : List Bool) (id : HeapId) (bits : List Bool) → length centre ≡ 4 → length bits ≡ 4
         → IsFirstBroken (meta_page ∷ list_page 2 3 centre ∷ row_page None id bits ∷ []) 1 }
     ensures no_first { (centre : List Bool) (id : HeapId) (bits : List Bool) → length centre ≡ 4 → length bits ≡ 4

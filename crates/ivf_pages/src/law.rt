@@ -5,6 +5,7 @@ ghost use Rattle.vec_names.specs.declared.params.Params.{Params as AnyParams};
 ghost use Rattle.vec_names.specs.Params.{IsInRange};
 ghost use Rattle.page_bytes.specs.Content.{Content, IsPage};
 ghost use Rattle.ivf_graph.specs.declared.graph.IvfGraph.{IvfGraph};
+ghost use Rattle.ivf_graph.specs.Graph.{AreBlocksOwn};
 ghost use Rattle.ivf_pages.specs.Standing.{IsFirstBroken, Stands};
 
 use vec_names::Kind;
@@ -18,4 +19,7 @@ pub fn law_standing()
     ensures one_params { (p q : AnyParams) (pages : List Content) (g h : IvfGraph) → Stands p pages g → Stands q pages h → p ≡ q }
     ensures in_range { (p : AnyParams) (pages : List Content) (g : IvfGraph) → All IsPage pages → Stands p pages g → IsInRange p }
     ensures of_kind { (p : AnyParams) (pages : List Content) (g : IvfGraph) → Stands p pages g → p.kind ≡ Kind.Ivf }
+
+    // The blocks of all chains are apart, and below the number of blocks.
+    ensures own_blocks { (p : AnyParams) (pages : List Content) (g : IvfGraph) → Stands p pages g → AreBlocksOwn g }
 {}

@@ -10,7 +10,9 @@ mod fitting;
 mod law;
 mod replaying;
 
-pub use effects::{law_add, law_blocks, law_drop, law_grow, law_hint, law_pages, law_redo};
+pub use effects::{
+    law_add, law_blocks, law_drop, law_grow, law_hint, law_pages, law_redo, law_root,
+};
 pub use examples::law_examples;
 pub use fitting::law_allowed;
 pub use law::law_standing;

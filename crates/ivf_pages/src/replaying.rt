@@ -24,9 +24,12 @@ pub fn law_replay()
         → Replayed p wrap number events pages after → Replayed p wrap number events pages again → after ≡ again }
 {}
 
-/// A law, and no work. The lasting acts of a legal history follow in turn (`follow`). Replayed on pages that stand for its base, they
-/// leave pages that stand for the index after the history (`stands`).
+/// A law, and no work. The lasting acts of a legal history follow in turn (`follow`). On pages that stand for its base they can be
+/// replayed (`there`), and leave pages that stand for the index after the history (`stands`).
 pub fn law_legal_replay()
+    ensures there { (p : AnyParams) (wrap number : ℕ) (acts : List Act) (pages : List Content) (base : IvfGraph)
+        → length pages ≤ MOST_BLOCKS → All IsPage pages → Stands p pages base → number < 2 ^ 64 → IsLegal base acts
+        → (after : List Content) × Replayed p wrap number (logged acts) pages after }
     ensures follow { (base : IvfGraph) (acts : List Act) → IsLegal base acts → FollowInTurn (logged acts) base }
     ensures stands { (p : AnyParams) (wrap number : ℕ) (acts : List Act) (pages after : List Content) (base : IvfGraph)
         → length pages ≤ MOST_BLOCKS → All IsPage pages → Stands p pages base → number < 2 ^ 64 → IsLegal base acts

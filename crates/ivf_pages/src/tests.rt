@@ -2,7 +2,7 @@
 
 use crate::{
     law_add, law_allowed, law_blocks, law_drop, law_examples, law_grow, law_hint, law_legal_replay,
-    law_pages, law_redo, law_replay, law_standing,
+    law_pages, law_redo, law_replay, law_root, law_standing,
 };
 use std::test::*;
 
@@ -15,6 +15,7 @@ fn laws_are_called(_rt: HostRuntime) -> Result<(), Fail> {
     law_hint();
     law_grow();
     law_redo();
+    law_root();
     law_blocks();
     law_pages();
     law_allowed();

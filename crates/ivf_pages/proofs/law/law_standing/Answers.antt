@@ -1,5 +1,6 @@
 use Rattle.ivf_pages.proofs.Root.{in_range}
 use Rattle.ivf_pages.proofs.StandingLaws.{none_broken, one_params, one_index, of_kind}
+use Rattle.ivf_pages.proofs.OwnBlocks.{own_blocks}
 use Rattle.ivf_pages.proofs.law.law_standing.Goals as goal
 
 pub returns-clause-whole : goal.returns-clause-whole
@@ -16,3 +17,6 @@ returns-clause-in_range c = λ p pages g all s. in_range pages p all s.params
 
 pub returns-clause-of_kind : goal.returns-clause-of_kind
 returns-clause-of_kind c = λ p pages g s. of_kind p pages g s
+
+pub returns-clause-own_blocks : goal.returns-clause-own_blocks
+returns-clause-own_blocks c = λ p pages g s. own_blocks p pages g s
