@@ -22,4 +22,6 @@ pub use log_fault::LogFault;
 pub use pending::Pending;
 
 #[cfg(test)]
+mod log_tests;
+#[cfg(test)]
 mod tests;
