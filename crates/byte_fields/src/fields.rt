@@ -1,4 +1,5 @@
 //! Numbers, places and heap ids, each read from the front of the bytes.
+#![tactic(auto, unfolding(crate::specs::Reading::byte_from, crate::specs::Reading::field, crate::specs::Reading::two_bytes_from, crate::specs::Reading::four_bytes_from, crate::specs::Reading::place, crate::specs::Reading::optional_place, crate::specs::Reading::heap_id, crate::specs::Reading::level_beside))]
 
 ghost use Rattle.std.specs.Prelude.{◌≡◌, ◌≤◌, IfOk};
 ghost use Rattle.byte_fields.specs.Reading.{byte_from, two_bytes_from, four_bytes_from, place, optional_place, heap_id, level_beside};
@@ -9,7 +10,6 @@ use vec_names::{HeapId, Tid};
 
 /// A byte from `low` to `high`.
 #[inline]
-#[tactic(auto, unfolding(crate::specs::Reading::byte_from, crate::specs::Reading::field))]
 pub fn byte_from(low: u8, high: u8, bytes: &[u8]) -> Result<(u8, &[u8]), Stop>
     ensures reads { Gives (λ x. (x.0, x.1.now)) result (byte_from low high bytes.now) }
     ensures range { IfOk result (λ x. (low ≤ x.0) × (x.0 ≤ high)) }
@@ -28,7 +28,6 @@ pub fn byte_from(low: u8, high: u8, bytes: &[u8]) -> Result<(u8, &[u8]), Stop>
 
 /// A number of two bytes from `low` to `high`.
 #[inline]
-#[tactic(auto, unfolding(crate::specs::Reading::two_bytes_from, crate::specs::Reading::field))]
 pub fn two_bytes_from(low: u16, high: u16, bytes: &[u8]) -> Result<(u16, &[u8]), Stop>
     ensures reads { Gives (λ x. (x.0, x.1.now)) result (two_bytes_from low high bytes.now) }
     ensures range { IfOk result (λ x. (low ≤ x.0) × (x.0 ≤ high)) }
@@ -46,7 +45,6 @@ pub fn two_bytes_from(low: u16, high: u16, bytes: &[u8]) -> Result<(u16, &[u8]),
 
 /// A number of four bytes from `low` to `high`.
 #[inline]
-#[tactic(auto, unfolding(crate::specs::Reading::four_bytes_from, crate::specs::Reading::field))]
 pub fn four_bytes_from(low: u32, high: u32, bytes: &[u8]) -> Result<(u32, &[u8]), Stop>
     ensures reads { Gives (λ x. (x.0, x.1.now)) result (four_bytes_from low high bytes.now) }
     ensures range { IfOk result (λ x. (low ≤ x.0) × (x.0 ≤ high)) }
@@ -64,7 +62,6 @@ pub fn four_bytes_from(low: u32, high: u32, bytes: &[u8]) -> Result<(u32, &[u8])
 
 /// The place of an item.
 #[inline]
-#[tactic(auto, unfolding(crate::specs::Reading::place, crate::specs::Reading::field))]
 pub fn place(bytes: &[u8]) -> Result<(Tid, &[u8]), Stop>
     ensures { Gives (λ x. (x.0, x.1.now)) result (place bytes.now) }
 {
@@ -79,7 +76,6 @@ pub fn place(bytes: &[u8]) -> Result<(Tid, &[u8]), Stop>
 
 /// The place of an item, or that there is none.
 #[inline]
-#[tactic(auto, unfolding(crate::specs::Reading::optional_place, crate::specs::Reading::field))]
 pub fn optional_place(bytes: &[u8]) -> Result<(Option<Tid>, &[u8]), Stop>
     ensures { Gives (λ x. (x.0, x.1.now)) result (optional_place bytes.now) }
 {
@@ -94,7 +90,6 @@ pub fn optional_place(bytes: &[u8]) -> Result<(Option<Tid>, &[u8]), Stop>
 
 /// The id of a row of the indexed table.
 #[inline]
-#[tactic(auto, unfolding(crate::specs::Reading::heap_id, crate::specs::Reading::field))]
 pub fn heap_id(bytes: &[u8]) -> Result<(HeapId, &[u8]), Stop>
     ensures { Gives (λ x. (x.0, x.1.now)) result (heap_id bytes.now) }
 {
@@ -109,7 +104,6 @@ pub fn heap_id(bytes: &[u8]) -> Result<(HeapId, &[u8]), Stop>
 
 /// The level of an entry, a byte; 0 alone where there is no entry.
 #[inline]
-#[tactic(auto, unfolding(crate::specs::Reading::level_beside))]
 pub fn level_beside(entry: Option<Tid>, bytes: &[u8]) -> Result<(u8, &[u8]), Stop>
     ensures { Gives (λ x. (x.0, x.1.now)) result (level_beside entry bytes.now) }
 {

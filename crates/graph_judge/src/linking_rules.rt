@@ -1,6 +1,7 @@
 //! Which nodes, neighbours and entry points a desk may put: what it knows decides.
 
 ghost use Rattle.std.specs.Prelude.{◌↔◌, IsTrue};
+ghost use Rattle.vec_names.specs.declared.heap_id.HeapId.{HeapId as HeapIds};
 ghost use Rattle.vec_graph.specs.Rules.{IsPutAllowed, IsLinkAllowed, IsRelistAllowed, IsEntryAtAllowed, IsNoEntryAllowed, IsEntryAllowed};
 
 use crate::cleaning::none_live;
@@ -20,8 +21,15 @@ pub(crate) fn may_put(
     bits: &Bits,
     lists: &Listed<Option<Tid>>,
 ) -> bool
-    ensures { IsTrue result ↔ IsPutAllowed course.now.base.now course.now.acts.now desk
-        place.at place.list_at place.version level bits.now lists.now }
+    ensures { (id : HeapIds) → IsTrue result ↔ IsPutAllowed course.now.base.now course.now.acts.now desk (record {
+      at = place.at;
+      list_at = place.list_at;
+      version = place.version;
+      level = level;
+      id = id;
+      bits = bits.now;
+      lists = lists.now;
+    }) }
 {
     if !holds(course.acts, desk, Gate::Update) {
         return false;

@@ -7,3 +7,4 @@ pub mod ActByAct
 pub mod Facts
 pub mod Entering
 pub mod Nothing
+pub mod Worked

@@ -1,3 +1,4 @@
 pub mod Reaching
 pub mod Touching
 pub mod Standing
+pub mod Examples

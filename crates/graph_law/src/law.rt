@@ -24,6 +24,9 @@ ghost use Rattle.graph_law.specs.Touching.{IsTouchedAt};
 ghost use Rattle.graph_law.specs.Standing.{IsSinceMark, IsCleanFrom};
 ghost use Rattle.vec_history.specs.Phases.{IsBehindDrops};
 ghost use Rattle.vec_graph.specs.Lasting.{IsMarkAt, IsSameAt};
+ghost use Rattle.vec_graph.specs.Cleaning.{IsCleanAt};
+ghost use Rattle.graph_law.specs.Touching.{IsTouched};
+ghost use Rattle.graph_law.specs.Examples.{first, second, third, nobody, naming, live, doomed, deleted, high_naming, pair, names_doomed, scans, drops, repairs};
 
 use vec_graph::Graph;
 use vec_history::Act;
@@ -109,4 +112,33 @@ pub fn law_cleaned(base: &Graph, acts: &[Act])
         → HasMember (after base.now acts.now) at layer to → IsLiveAt (after base.now acts.now) to 0 }
     ensures entry { (p : ℕ) (to : Tids) → IsCleanFrom base.now acts.now p → (after base.now acts.now).entry ≡ Some to
         → IsLiveAt (after base.now acts.now) to 0 }
+{}
+
+/// Worked examples of the words, where they hold and where they do not. Two nodes stand at the places 1/1, which is the entry point,
+/// and 1/3; nothing stands at 1/5.
+pub fn law_examples()
+    // A live node that names a doomed one.
+    ensures sound { IsSound names_doomed }
+    // A doomed node that is not reached may name anything.
+    ensures sound_unreached { IsSound (pair (live nobody) (doomed (naming third))) }
+    // A live node names a deleted one; or a doomed one, which names a place where nothing stands; or in layer 1 a node of level 0.
+    ensures not_sound_deleted { IsSound (pair (live (naming second)) (deleted nobody)) → ⊥ }
+    ensures not_sound_missing { IsSound (pair (live (naming second)) (doomed (naming third))) → ⊥ }
+    ensures not_sound_low { IsSound (pair (high_naming second) (live nobody)) → ⊥ }
+
+    // At position 1 the entry point names 1/3, and at position 2 nothing does. A scan that began by act 2 has not touched it.
+    ensures touched { IsTouchedAt names_doomed scans 0 1 second }
+    ensures not_touched { IsTouchedAt names_doomed scans 0 2 second → ⊥ }
+    ensures not_touched_later { IsTouched names_doomed scans 2 second → ⊥ }
+
+    // Act 1 is a Drop.
+    ensures behind { IsBehindDrops drops 2 }
+    ensures not_behind { IsBehindDrops drops 0 → ⊥ }
+
+    // A layer that names a doomed node is not clean, and one that names a live node is.
+    ensures clean { IsCleanAt (pair (live (naming second)) (live nobody)) first 0 }
+    ensures not_clean { IsCleanAt names_doomed first 0 → ⊥ }
+    // Act 1 takes away the slot that named a doomed node.
+    ensures clean_from { IsCleanFrom names_doomed repairs 2 }
+    ensures not_clean_from { IsCleanFrom names_doomed repairs 1 → ⊥ }
 {}

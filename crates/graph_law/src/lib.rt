@@ -8,7 +8,7 @@
 
 mod law;
 
-pub use law::{law_behind_drops, law_cleaned, law_known, law_scan, law_sound};
+pub use law::{law_behind_drops, law_cleaned, law_examples, law_known, law_scan, law_sound};
 
 #[cfg(test)]
 mod tests;

@@ -43,4 +43,5 @@ fn laws_before_any_act(rt: HostRuntime) {
     law_scan(&base, &acts);
     law_behind_drops(&base, &acts);
     law_cleaned(&base, &acts);
+    law_examples();
 }

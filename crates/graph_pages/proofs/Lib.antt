@@ -37,3 +37,12 @@ pub mod FormatKept
 pub mod RedoEffect
 pub mod PutFreshFits
 pub mod BlocksKept
+pub mod SpelledBytes
+pub mod PagesKept
+pub mod PagesAfter
+pub mod EntrySums
+pub mod PageRoom
+pub mod PageShape
+pub mod OtherFormat
+pub mod FollowLaws
+pub mod ReusedPlace

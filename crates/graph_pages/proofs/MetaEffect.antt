@@ -45,17 +45,17 @@ root_from pages c x m there kind alone is reads graph =
     let read : of_graph m ≡ Some m = rw graph refl in
     ap (λ o. option_and_then root_on o) there ∙ rw (tests, item, read) refl
 
--- the meta tuple with another entry and hint
-abbrev meta_with : Meta → Option Tid → ℕ → ℕ → Meta
-meta_with m entry level hint = record m { entry = entry; level = level; hint = hint }
+-- the meta tuple with another format, entry and hint
+abbrev meta_with : Meta → ℕ → Option Tid → ℕ → ℕ → Meta
+meta_with m format entry level hint = record m { format = format; entry = entry; level = level; hint = hint }
 
-module _ (pages : List Content) (g : Graph) (c : Content) (number : ℕ) (all : All IsPage pages) (s : Stands pages g) (there : slice_get pages 0 ≡ Some c) (entry : Option Tid) (level hint : ℕ)
-    (fits : IsMeta (meta_with s.meta entry level hint)) where
+module _ (pages : List Content) (g : Graph) (c : Content) (number : ℕ) (all : All IsPage pages) (s : Stands pages g) (there : slice_get pages 0 ≡ Some c) (format : ℕ) (entry : Option Tid) (level hint : ℕ)
+    (fits : IsMeta (meta_with s.meta format entry level hint)) where
   abbrev p : Params
   p = s.meta.params
 
   abbrev m : Meta
-  m = meta_with s.meta entry level hint
+  m = meta_with s.meta format entry level hint
 
   abbrev after : List Content
   after = slice_set pages 0 (numbered number (with_item c 1 (meta_bytes m)))
@@ -113,7 +113,7 @@ module _ (pages : List Content) (g : Graph) (c : Content) (number : ℕ) (all : 
       root_from after (numbered number (with_item c 1 (meta_bytes m))) (meta_bytes m) m (set_here pages 0 c (numbered number (with_item c 1 (meta_bytes m))) there) kind
       (length-set c.items (1 - 1) (meta_bytes m) ∙ alone) (with_item_here c 1 r.item (meta_bytes m) old_is) (whole_read meta_field (meta_bytes m) m fits refl) r.graph
 
-  meta_effect : hint ≤ length pages → is_entry p pages entry level ≡ true
+  pub meta_effect : hint ≤ length pages → is_entry p pages entry level ≡ true
       → Stands after (record g { entry = entry; level = level; hint = hint })
   meta_effect low good =
       let low_after : hint ≤ length after = omega (arith, low, change.count) in
@@ -126,13 +126,13 @@ module _ (pages : List Content) (g : Graph) (c : Content) (number : ℕ) (all : 
 -- ---- what the rules of block 0 say
 
 module _ (pages : List Content) (g : Graph) (all : All IsPage pages) (s : Stands pages g) where
-  root_parts : (nat_le s.meta.hint (length pages) ≡ true) × (is_entry s.meta.params pages s.meta.entry s.meta.level ≡ true)
+  pub root_parts : (nat_le s.meta.hint (length pages) ≡ true) × (is_entry s.meta.params pages s.meta.entry s.meta.level ≡ true)
   root_parts = and_parts (nat_le s.meta.hint (length pages)) (is_entry s.meta.params pages s.meta.entry s.meta.level) (root_holds pages g s)
 
-  meta_fits : IsMeta s.meta
+  pub meta_fits : IsMeta s.meta
   meta_fits = root_fits pages s.meta all (root_is pages s.meta s.read)
 
-  meta_there : (c : Content) → slice_get pages 0 ≡ Some c → meta_at c ≡ Some s.meta
+  pub meta_there : (c : Content) → slice_get pages 0 ≡ Some c → meta_at c ≡ Some s.meta
   meta_there c there =
       let r = root_is pages s.meta s.read in
       let same : c ≡ r.page = some_is c r.page (sym there ∙ r.there) in
@@ -193,7 +193,7 @@ module _ (pages : List Content) (g : Graph) (all : All IsPage pages) (s : Stands
         ap₂ (λ (e : Option Tid) (l : ℕ). record g { entry = e; level = l; hint = hint }) (sym s.entry) (sym s.level) in
         subst (λ (m : Meta). Stands (slice_set pages 0 (numbered number (with_item page 1 (meta_bytes m)))) (record g { hint = hint })) w.1
         (subst (λ (h : Graph). Stands (slice_set pages 0 (numbered number (with_item page 1 (meta_bytes (record s.meta { hint = hint }))))) h) same
-        (meta_effect pages g page number all s here s.meta.entry s.meta.level hint fits (omega (arith, low, s.blocks)) root_parts.1)))
+        (meta_effect pages g page number all s here s.meta.format s.meta.entry s.meta.level hint fits (omega (arith, low, s.blocks)) root_parts.1)))
 
     pub entry_effect : (to : Option Tid) (level : ℕ) → ((at : Tid) → to ≡ Some at → HasLevel g at level)
         → option_map (numbered number) (at_one 0 (on_meta (meta_changed (entered to level))) block page) ≡ Some after
@@ -212,4 +212,4 @@ module _ (pages : List Content) (g : Graph) (all : All IsPage pages) (s : Stands
         let same : record g { entry = to; level = level; hint = s.meta.hint } ≡ record g { entry = to; level = level } = ap (λ (n : ℕ). record g { entry = to; level = level; hint = n }) (sym s.hint) in
         subst (λ (m : Meta). Stands (slice_set pages 0 (numbered number (with_item page 1 (meta_bytes m)))) (record g { entry = to; level = level })) w.1
         (subst (λ (h : Graph). Stands (slice_set pages 0 (numbered number (with_item page 1 (meta_bytes (record s.meta { entry = to; level = level }))))) h) same
-        (meta_effect pages g page number all s here to level s.meta.hint fits (leb-true s.meta.hint (length pages) root_parts.0) (entry_good to level has))))
+        (meta_effect pages g page number all s here s.meta.format to level s.meta.hint fits (leb-true s.meta.hint (length pages) root_parts.0) (entry_good to level has))))

@@ -60,10 +60,10 @@ pub any_slots : (slots : List (Option Tid)) → AllByRecursion (IsSlotOf false) 
 any_slots [] = tt
 any_slots (slot ∷ slots) = (tt, any_slots slots)
 
-times_cancels : (a b m : ℕ) → 0 < m → a * m ≡ b * m → a ≡ b
+pub times_cancels : (a b m : ℕ) → 0 < m → a * m ≡ b * m → a ≡ b
 times_cancels a b m some same = sym (mul-div_cancel a some) ∙ ap (λ n. n / m) same ∙ mul-div_cancel b some
 
-some_m : (k : Kind) (p : Params) → is_graph k ≡ true → IsInRangeOf k p → 2 ≤ p.m
+pub some_m : (k : Kind) (p : Params) → is_graph k ≡ true → IsInRangeOf k p → 2 ≤ p.m
 some_m Hnsw p is range = range.m_low
 some_m Ivf p is range = absurd cc
 
@@ -87,21 +87,21 @@ node_is p n is =
     }
 
 -- what the first change found and made
-record IsElementPut (p : Params) (n : NewNode) (c d : Content) : Type 0 where
-  kind : is_graph_page c.kind ≡ true
-  node : IsNode p n
-  e : Element
-  item : List ℕ
-  is : item_at c.items n.at.off ≡ Some item
-  reads : in_whole (element p item) ≡ Some e
-  of_version : e.version ≡ n.version
-  made : with_item c n.at.off (element_bytes (new_element n)) ≡ d
+pub record IsElementPut (p : Params) (n : NewNode) (c d : Content) : Type 0 where
+  pub kind : is_graph_page c.kind ≡ true
+  pub node : IsNode p n
+  pub e : Element
+  pub item : List ℕ
+  pub is : item_at c.items n.at.off ≡ Some item
+  pub reads : in_whole (element p item) ≡ Some e
+  pub of_version : e.version ≡ n.version
+  pub made : with_item c n.at.off (element_bytes (new_element n)) ≡ d
 
 old_element : (version : ℕ) (e : Element) (o : Option Element) → o ≡ Some e → is_old_element version o ≡ true → e.version ≡ version
 old_element version e None is old = absurd cc
 old_element version e (Some d) is old = ap (λ (e : Element). e.version) (sym (some_is d e is)) ∙ old_version d.deleted d.version version old
 
-element_put : (p : Params) (n : NewNode) (c d : Content) (item : List ℕ) (e : Element) → item_at c.items n.at.off ≡ Some item → in_whole (element p item) ≡ Some e
+pub element_put : (p : Params) (n : NewNode) (c d : Content) (item : List ℕ) (e : Element) → item_at c.items n.at.off ≡ Some item → in_whole (element p item) ≡ Some e
     → put_element p n c ≡ Some d → IsElementPut p n c d
 element_put p n c d item e there reads is =
     let x = element_bytes (new_element n) in
@@ -122,16 +122,16 @@ element_put p n c d item e there reads is =
     }
 
 -- and the second
-record IsListPut (p : Params) (n : NewNode) (c d : Content) : Type 0 where
-  kind : is_graph_page c.kind ≡ true
-  l : Links
-  item : List ℕ
-  is : item_at c.items n.list_at.off ≡ Some item
-  reads : in_whole (links p item) ≡ Some l
-  long : length item ≡ length (links_bytes (new_links n))
-  made : with_item c n.list_at.off (links_bytes (new_links n)) ≡ d
+pub record IsListPut (p : Params) (n : NewNode) (c d : Content) : Type 0 where
+  pub kind : is_graph_page c.kind ≡ true
+  pub l : Links
+  pub item : List ℕ
+  pub is : item_at c.items n.list_at.off ≡ Some item
+  pub reads : in_whole (links p item) ≡ Some l
+  pub long : length item ≡ length (links_bytes (new_links n))
+  pub made : with_item c n.list_at.off (links_bytes (new_links n)) ≡ d
 
-list_put : (p : Params) (n : NewNode) (c d : Content) (item : List ℕ) (l : Links) → item_at c.items n.list_at.off ≡ Some item → in_whole (links p item) ≡ Some l
+pub list_put : (p : Params) (n : NewNode) (c d : Content) (item : List ℕ) (l : Links) → item_at c.items n.list_at.off ≡ Some item → in_whole (links p item) ≡ Some l
     → put_links p n c ≡ Some d → IsListPut p n c d
 list_put p n c d item l there reads is =
     let y = links_bytes (new_links n) in

@@ -6,9 +6,10 @@ use Rattle.vec_history.specs.declared.event.Event.{Event}
 use Rattle.page_bytes.specs.Content.{Content, IsPage}
 use Rattle.vec_graph.specs.declared.graph.Graph.{Graph}
 use Rattle.vec_graph.specs.Effect.{effect}
-use Rattle.page_redo.specs.Redo.{touched, redone}
+use Rattle.page_redo.specs.Redo.{touched, redone, numbered}
 use Rattle.vec_tuples.specs.declared.meta.Meta.{Meta}
-use Rattle.page_redo.specs.PageTuples.{meta_at}
+use Rattle.vec_tuples.specs.Spelling.{meta_bytes}
+use Rattle.page_redo.specs.PageTuples.{meta_at, with_item}
 use Rattle.graph_pages.specs.Standing.{Stands}
 
 -- Where pages stand for the graph, and the event fits the page of a block, these pages with the one that redo makes of it
@@ -28,3 +29,7 @@ pub record AreRedone (params : Params) (wrap number : ℕ) (event : Event) (page
 -- the format of the meta tuple, where block 0 has one
 abbrev pub format_in : List Content → Option ℕ
 format_in pages = option_map (λ (m : Meta). m.format) (option_and_then meta_at (slice_get pages 0))
+
+-- the page of a meta tuple, with that of another format and with this number
+abbrev pub with_format : ℕ → ℕ → Content → Meta → Content
+with_format format number page m = numbered number (with_item page 1 (meta_bytes (record m { format = format })))

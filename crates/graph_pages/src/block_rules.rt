@@ -30,7 +30,7 @@ pub fn is_root(pages: &[Page], meta: &Meta) -> bool
     is_entry(pages, &meta.params, meta.entry, meta.level)
 }
 
-fn is_entry(pages: &[Page], params: &Params, entry: Option<Tid>, level: u8) -> bool
+pub fn is_entry(pages: &[Page], params: &Params, entry: Option<Tid>, level: u8) -> bool
     requires { IsInRange params.now }
     ensures { result ≡ is_entry params.now pages.now entry level }
 {

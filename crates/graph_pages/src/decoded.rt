@@ -128,7 +128,7 @@ fn are_slots_below(item: &[u8], count: u16, blocks: usize) -> bool
     true
 }
 
-fn is_slot_below(blocks: usize, slot: Option<Tid>) -> bool
+pub fn is_slot_below(blocks: usize, slot: Option<Tid>) -> bool
     ensures { result ≡ is_slot_below blocks slot }
 {
     match slot {

@@ -3,7 +3,7 @@
 //! Redo itself tests versions, deleted states, and the numbers of ids and slots. What a law asks besides is what an event that
 //! the rules allow gives.
 
-ghost use Rattle.std.specs.Prelude.{◌≡◌, ◌≤◌, ◌<◌, ◌+◌, ◌++◌, ◌∷◌, [], ℕ, Bool, List, length, Option, Some, None, slice_get, replicate, All};
+ghost use Rattle.std.specs.Prelude.{◌≡◌, ◌≤◌, ◌<◌, ◌+◌, ◌++◌, ◌∷◌, [], ℕ, Bool, List, length, Option, Some, None, slice_get, slice_set, replicate, All, Contains, ◌^◌};
 ghost use Rattle.vec_names.specs.declared.tid.Tid.{Tid as Place};
 ghost use Rattle.vec_names.specs.declared.heap_id.HeapId.{HeapId};
 ghost use Rattle.vec_names.specs.declared.params.Params.{Params as AnyParams};
@@ -16,7 +16,9 @@ ghost use Rattle.vec_graph.specs.Graph.{node_at, HasLevel};
 ghost use Rattle.vec_graph.specs.Effect.{effect};
 ghost use Rattle.page_redo.specs.Redo.{touched};
 ghost use Rattle.graph_pages.specs.Standing.{item_in, Stands};
-ghost use Rattle.graph_pages.specs.Effects.{RedoIsEffect, AreRedone, format_in};
+ghost use Rattle.graph_pages.specs.Effects.{RedoIsEffect, AreRedone, format_in, with_format};
+ghost use Rattle.vec_tuples.specs.declared.meta.Meta.{Meta as Metas};
+ghost use Rattle.page_redo.specs.PageTuples.{meta_at};
 ghost use Rattle.graph_pages.specs.Following.{Follows};
 ghost use Rattle.graph_pages.specs.Growing.{fresh_page, blocks_after, AreAllRedone};
 
@@ -133,4 +135,27 @@ pub fn law_once()
 pub fn law_fresh()
     ensures { (pages : List Content) (g : Graph) (count : ℕ) → Stands pages g
         → Stands (pages ++ replicate count (fresh_page PageKind.Hnsw)) (record g { blocks = g.blocks + count }) }
+{}
+
+/// A law, and no work. Redo of an event that follows leaves pages that have bytes, where those before had, and the event's number fits
+/// a page. Each page that it touches carries that number.
+pub fn law_pages()
+    ensures bytes { (pages after : List Content) (g : Graph) (event : Events) (wrap number : ℕ) → All IsPage pages → Stands pages g
+        → Follows pages g event → number < 2 ^ 64 → AreAllRedone g.params wrap number event pages after → All IsPage after }
+    ensures numbers { (pages after : List Content) (g : Graph) (event : Events) (wrap number block : ℕ) (page : Content)
+        → AreAllRedone g.params wrap number event pages after → Contains (touched event g.params) block
+        → slice_get after block ≡ Some page → page.number ≡ number }
+{}
+
+/// A law, and no work. Pages of which the meta tuple gets another format, 1 or 2, stand for the same graph, and have bytes.
+pub fn law_other_format()
+    ensures stands { (pages : List Content) (g : Graph) (page : Content) (meta : Metas) (format number : ℕ) → All IsPage pages
+        → Stands pages g → slice_get pages 0 ≡ Some page → meta_at page ≡ Some meta → 1 ≤ format → format ≤ 2
+        → Stands (slice_set pages 0 (with_format format number page meta)) g }
+    ensures bytes { (pages : List Content) (g : Graph) (page : Content) (meta : Metas) (format number : ℕ) → All IsPage pages
+        → Stands pages g → slice_get pages 0 ≡ Some page → meta_at page ≡ Some meta → 1 ≤ format → format ≤ 2 → number < 2 ^ 64
+        → All IsPage (slice_set pages 0 (with_format format number page meta)) }
+    ensures format { (pages : List Content) (g : Graph) (page : Content) (meta : Metas) (format number : ℕ) → All IsPage pages
+        → Stands pages g → slice_get pages 0 ≡ Some page → meta_at page ≡ Some meta → 1 ≤ format → format ≤ 2
+        → format_in (slice_set pages 0 (with_format format number page meta)) ≡ Some format }
 {}

@@ -11,23 +11,28 @@ mod broken_blocks;
 mod decoded;
 mod effects;
 mod fitting;
+mod following;
 mod graph_fault;
 mod law;
 mod list_pointers;
 mod nodes;
 mod page_places;
+mod room;
 mod standing;
 
 pub use effects::{
     law_blocks, law_drop, law_entry, law_format, law_fresh, law_hint, law_join, law_link, law_mark,
-    law_once, law_one_block, law_put_again, law_put_new, law_redo, law_relist,
+    law_once, law_one_block, law_other_format, law_pages, law_put_again, law_put_new, law_redo,
+    law_relist,
 };
 pub use fitting::{
     law_drop_fits, law_entry_fits, law_hint_fits, law_join_fits, law_link_fits, law_mark_fits,
     law_put_again_fits, law_put_fresh_fits, law_put_new_fits, law_relist_fits,
 };
+pub use following::follows;
 pub use graph_fault::GraphFault;
 pub use law::law_standing;
+pub use room::{law_reuse, law_room};
 pub use standing::graph_of;
 
 #[cfg(test)]

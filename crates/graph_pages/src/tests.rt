@@ -1,11 +1,11 @@
 //! Pages that stand for a graph, and pages that break each of the rules.
 
 use crate::{
-    GraphFault, graph_of, law_blocks, law_drop, law_drop_fits, law_entry, law_entry_fits,
+    GraphFault, follows, graph_of, law_blocks, law_drop, law_drop_fits, law_entry, law_entry_fits,
     law_format, law_fresh, law_hint, law_hint_fits, law_join, law_join_fits, law_link,
-    law_link_fits, law_mark, law_mark_fits, law_once, law_one_block, law_put_again,
-    law_put_again_fits, law_put_fresh_fits, law_put_new, law_put_new_fits, law_redo, law_relist,
-    law_relist_fits, law_standing,
+    law_link_fits, law_mark, law_mark_fits, law_once, law_one_block, law_other_format, law_pages,
+    law_put_again, law_put_again_fits, law_put_fresh_fits, law_put_new, law_put_new_fits, law_redo,
+    law_relist, law_relist_fits, law_reuse, law_room, law_standing,
 };
 use bit_code::read_bits;
 use page_bytes::{Page, PageKind};
@@ -400,6 +400,175 @@ fn redo_is_the_effect_on_the_graph(rt: HostRuntime) -> Result<(), Fail> {
     Ok(())
 }
 
+/// The element at 1/1 with its list at 1/2: put, marked, and put again with the version that the mark left.
+#[test]
+fn places_taken_again_after_a_mark(rt: HostRuntime) -> Result<(), Fail> {
+    let alloc = rt.alloc();
+    let mut meta = Page::fresh(PageKind::Meta);
+    meta.add_item(&META);
+    let mut pages = [meta, Page::fresh(PageKind::Hnsw)];
+    let mark = Event::Mark {
+        at: place(1),
+        list_at: place(2),
+        version: 1,
+    };
+    assert!(rt; is_redone(&put(alloc, place(2))?, 1, &mut pages[1]));
+    assert!(rt; is_redone(&mark, 1, &mut pages[1]));
+    let again = Event::Put {
+        at: place(1),
+        list_at: place(2),
+        version: 2,
+        level: 0,
+        id: row(3),
+        bits: read_bits(alloc, "1000")?,
+        lists: slots(alloc, 4)?,
+    };
+    assert!(rt; is_redone(&again, 1, &mut pages[1]));
+    let graph = graph_of(alloc, &pages)?;
+    let Some(node) = graph.nodes.get(place(1)) else {
+        panic!(rt; "no node stands at 1/1")
+    };
+    assert!(rt; graph.nodes.len() == 1 && graph.blocks == 2);
+    assert!(rt; !node.deleted && node.version == 2 && node.ids.as_slice() == [row(3)].as_slice());
+    Ok(())
+}
+
+/// The place of these numbers, or the nearest that there is.
+fn at(block: u32, off: u16) -> Tid {
+    Tid {
+        block: block.min(32767),
+        off: off.max(1),
+    }
+}
+
+/// Whether the event follows on the small index: nodes at 1/1 with the list 1/2 and at 2/1 with the list 1/3, of level 0.
+fn is_next(event: &Event) -> bool {
+    if !GRAPH.check() {
+        return false;
+    }
+    follows(event, &GRAPH, &pages_of(KINDS, &small_index()))
+}
+
+/// Whether a Put at these places follows there, of whose slots one names a place on a block.
+fn is_put_next(alloc: Global, first: Tid, list_at: Tid, to: u32) -> Result<bool, Fail> {
+    let mut lists = slots(alloc, 3)?;
+    lists.push(Some(at(to, 1)))?;
+    Ok(is_next(&Event::Put {
+        at: first,
+        list_at,
+        version: 1,
+        level: 0,
+        id: row(1),
+        bits: read_bits(alloc, "0000")?,
+        lists,
+    }))
+}
+
+#[test]
+fn puts_that_follow(rt: HostRuntime) -> Result<(), Fail> {
+    // The element's place, the list's, the block that a slot names, and whether the Put follows.
+    for (first, list_at, to, is) in [
+        // A node's two places; another node's list; an old place and a new one, and the other way round.
+        (at(1, 1), at(1, 2), 2, true),
+        (at(1, 1), at(1, 3), 2, false),
+        (at(1, 1), at(1, 4), 2, false),
+        (at(1, 4), at(1, 2), 2, false),
+        // New places on one block, on two, on the next one and on the next two; a block is left out.
+        (at(1, 4), at(1, 5), 2, true),
+        (at(1, 4), at(2, 2), 2, true),
+        (at(3, 1), at(3, 2), 2, true),
+        (at(2, 2), at(3, 1), 2, true),
+        (at(3, 1), at(4, 1), 2, true),
+        (at(4, 1), at(3, 1), 2, true),
+        (at(4, 1), at(4, 2), 2, false),
+        (at(2, 2), at(4, 1), 2, false),
+        // A slot names the last block that there is after it, and one further.
+        (at(1, 4), at(1, 5), 3, false),
+        (at(3, 1), at(3, 2), 3, true),
+        (at(3, 1), at(3, 2), 4, false),
+    ] {
+        assert!(rt; is_put_next(rt.alloc(), first, list_at, to)? == is);
+    }
+    Ok(())
+}
+
+#[test]
+fn links_and_marks_that_follow(rt: HostRuntime) {
+    // The element's place, the list's, the block that the slot comes to name; whether the Link follows, and the Mark.
+    for (first, list_at, to, link, mark) in [
+        (at(1, 1), at(1, 2), 2, true, true),
+        (at(2, 1), at(1, 3), 0, true, true),
+        (at(1, 1), at(1, 2), 3, false, true),
+        (at(1, 1), at(1, 3), 2, false, false),
+        (at(1, 2), at(1, 2), 2, false, false),
+        (at(3, 1), at(1, 2), 2, false, false),
+    ] {
+        let a_link = Event::Link {
+            at: first,
+            list_at,
+            version: 1,
+            slot: 0,
+            to: at(to, 1),
+        };
+        let a_mark = Event::Mark {
+            at: first,
+            list_at,
+            version: 1,
+        };
+        assert!(rt; is_next(&a_link) == link && is_next(&a_mark) == mark);
+    }
+}
+
+#[test]
+fn entries_and_hints_that_follow(rt: HostRuntime) {
+    for (to, level, is) in [
+        (Some(at(1, 1)), 0, true),
+        (Some(at(2, 1)), 0, true),
+        (Some(at(2, 1)), 1, false),
+        (Some(at(1, 2)), 0, false),
+        (Some(at(3, 1)), 0, false),
+        (None, 0, true),
+    ] {
+        assert!(rt; is_next(&Event::Entry { to, level }) == is);
+    }
+    for (block, is) in [(0, false), (1, true), (3, true), (4, false)] {
+        assert!(rt; is_next(&Event::Hint { block }) == is);
+    }
+    assert!(rt; !is_next(&Event::VacuumEnd));
+}
+
+#[test]
+fn slots_and_ids_that_follow(rt: HostRuntime) -> Result<(), Fail> {
+    let alloc = rt.alloc();
+    for (list_at, to, is) in [
+        (at(1, 2), 2, true),
+        (at(1, 2), 3, false),
+        (at(1, 3), 2, false),
+    ] {
+        let mut lists = slots(alloc, 3)?;
+        lists.push(Some(at(to, 1)))?;
+        let relist = Event::Relist {
+            at: at(1, 1),
+            list_at,
+            version: 1,
+            lists,
+        };
+        assert!(rt; is_next(&relist) == is);
+    }
+    let join = Event::Join {
+        at: at(9, 9),
+        version: 1,
+        id: row(1),
+    };
+    let drop = Event::Drop {
+        at: at(9, 9),
+        version: 1,
+        gone: 1,
+    };
+    assert!(rt; is_next(&join) && is_next(&drop));
+    Ok(())
+}
+
 #[test]
 fn laws_are_called(_rt: HostRuntime) -> Result<(), Fail> {
     law_standing();
@@ -408,6 +577,10 @@ fn laws_are_called(_rt: HostRuntime) -> Result<(), Fail> {
     law_fresh();
     law_once();
     law_one_block();
+    law_pages();
+    law_other_format();
+    law_room();
+    law_reuse();
     law_put_again();
     law_put_new();
     law_redo();

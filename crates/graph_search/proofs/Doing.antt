@@ -6,7 +6,8 @@ use Rattle.std.proofs.lemmas.List.Elements.{filter-append}
 use Rattle.vec_history.specs.declared.event.Event.{Event}
 use Rattle.vec_history.specs.declared.event.Act.{Act}
 use Rattle.vec_graph.specs.declared.graph.Graph.{Graph}
-use Rattle.graph_search.specs.Reads.{Look, Answer, AreReadAt, IsRising}
+use Rattle.vec_history.specs.Acts.{IsRising}
+use Rattle.graph_search.specs.Reads.{Look, Answer, AreReadAt}
 use Rattle.graph_search.specs.Deeds.{Deed, looks_of, deed_events, events_of, AreDoneAt, own_events, DidBetween}
 
 -- ---- positions

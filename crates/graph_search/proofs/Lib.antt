@@ -9,3 +9,4 @@ pub mod FirstInsert
 pub mod RowsRead
 pub mod Presence
 pub mod Holding
+pub mod WorkedBatches

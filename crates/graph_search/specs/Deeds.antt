@@ -11,14 +11,14 @@ use Rattle.vec_history.specs.declared.event.Event.TheVariants as event
 use Rattle.vec_history.specs.declared.event.Act.{Act}
 use Rattle.vec_history.specs.declared.gate.Gate.{Gate}
 use Rattle.vec_history.specs.declared.gate.Hold.{Hold}
-use Rattle.vec_history.specs.Acts.{IsActAt}
+use Rattle.vec_history.specs.Acts.{IsActAt, IsRising}
 use Rattle.vec_graph.specs.declared.place.Place.{Place}
 use Rattle.vec_graph.specs.declared.node.Node.{Node}
 use Rattle.vec_graph.specs.declared.graph.Graph.{Graph}
 use Rattle.vec_graph.specs.Graph.{node_at, layer_slots}
 use Rattle.vec_graph.specs.Places.{place_on, new_place, new_blocks}
 use Rattle.vec_graph.specs.Effect.{state_after}
-use Rattle.graph_search.specs.Reads.{Look, Answer, answer_of, IsRising}
+use Rattle.graph_search.specs.Reads.{Look, Answer, answer_of}
 
 -- ---- changes that are asked for, and their words
 

@@ -5,3 +5,4 @@ pub mod Scan
 pub mod Deeds
 pub mod Insert
 pub mod Examples
+pub mod Batches

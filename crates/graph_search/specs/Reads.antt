@@ -74,8 +74,3 @@ AreReadAt base acts [] (r ∷ reads) = ⊥
 AreReadAt base acts (n ∷ positions) [] = ⊥
 AreReadAt base acts (n ∷ positions) (r ∷ reads) =
     ((n ≤ length acts) × (r.1 ≡ answer_of (state_after base acts n) r.0)) × AreReadAt base acts positions reads
-
--- positions do not fall, and lie between these two
-abbrev pub IsRising : ℕ → List ℕ → ℕ → Type 0
-IsRising low [] high = low ≤ high
-IsRising low (n ∷ positions) high = (low ≤ n) × IsRising n positions high

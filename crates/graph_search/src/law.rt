@@ -1,6 +1,6 @@
 //! What the definition of a search means: laws, and no work.
 
-ghost use Rattle.std.specs.Prelude.{◌≡◌, ◌↔◌, ◌<◌, ◌≤◌, ℕ, Bool, true, List, [], ◌∷◌, ◌++◌, length, slice_get, Option, Some, None};
+ghost use Rattle.std.specs.Prelude.{◌≡◌, ◌↔◌, ◌<◌, ◌≤◌, ℕ, Bool, true, false, List, [], ◌∷◌, ◌++◌, length, slice_get, Option, Some, None};
 ghost use Rattle.neighbour_pick.specs.declared.found.Found.{Found as Elements};
 ghost use Rattle.vec_names.specs.declared.tid.Tid.{Tid};
 ghost use Rattle.vec_names.specs.declared.params.Ops.{Ops};
@@ -24,6 +24,13 @@ ghost use Rattle.vec_names.specs.Order.{tid_cmp};
 ghost use Rattle.graph_search.specs.Search.{Start, Bounds, Turn, is_halted, LayerSearch, IsMet, AreExact, is_live, is_before, course_reads};
 ghost use Rattle.graph_search.specs.Examples.{Stand, zeros, last_two, last_three, last_one, element_at, from_first, three_turns};
 ghost use Rattle.graph_search.specs.Examples.{one_turn, from_nearest, turns_through, no_entry_reads, gone_entry_reads, nothing_found, no_lists, first_insert, first_events};
+ghost use Rattle.bit_dist.specs.declared.dist.Dist.{Dist};
+ghost use Rattle.bit_dist.specs.Distances.{hamming_of};
+ghost use Rattle.vec_names.specs.declared.params.Ops.TheVariants.{Hamming};
+ghost use Rattle.graph_search.specs.Scan.{Relaxed, Strict, GoesOn, is_less};
+ghost use Rattle.graph_search.specs.Batches.{first, second, third, list_place, row_1, row_2, row_3, told_as, given_of, look_again};
+ghost use Rattle.graph_search.specs.Batches.{first_reads, after_first, second_reads, after_second, after_third, before_reuse, after_reuse};
+ghost use Rattle.graph_search.specs.Reads.{AtList, Gone};
 
 /// A law, and no work. The search of one layer gives at most ef elements, each of which was live as it was read, and none
 /// of which comes after one that is farther: they rise by distance, and then by place. Each
@@ -134,7 +141,8 @@ pub fn law_worked_insert()
 /// value, from which its distance is.
 pub fn law_batches()
     ensures first { (ops : Ops) (query : List Bool) (ef : ℕ) (reads : List (Look × Answer)) (given : List Given) (end : Bool)
-        (now : Standing) → FirstBatch ops query ef reads given end now → (i : ℕ) (g : Given) → slice_get given i ≡ Some g → IsRowRead ops query reads g }
+        (now : Standing) → FirstBatch ops query ef reads given end now → (i : ℕ) (g : Given) → slice_get given i ≡ Some g
+        → IsRowRead ops query reads g }
     ensures next { (ef most : ℕ) (mode : Mode) (old : Standing) (reads : List (Look × Answer)) (given : List Given) (end : Bool)
         (now : Standing) → NextBatch ef most mode old reads given end now
         → (i : ℕ) (g : Given) → slice_get given i ≡ Some g → IsRowRead old.start.ops old.start.query reads g }
@@ -155,4 +163,26 @@ pub fn law_going_on()
     ensures batch { (ef most : ℕ) (mode : Mode) (old : Standing) (reads : List (Look × Answer)) (given : List Given) (end : Bool)
         (now : Standing) (b : NextBatch ef most mode old reads given end now) → old.start.layer ≡ 0
         → GoesOnTo old.start ef (Some most) old.turns old.taken (course_reads 0 b.more) b.more }
+{}
+
+/// A law, and no work. Worked batches: a scan of 0000 with ef 1, of 0011 at 1/1 and 0111 at 1/3. The first batch gives the row of 1/1
+/// at 2. Then 0001 comes to 1/5. Where the scan goes on with each row that is found, the next batch gives it at 1; where it gives
+/// none that is nearer than the last one given, that batch gives none, and yet is not the last. The one after looks at 1/3 again
+/// and gives its row at 3, and the one after that is the last.
+pub fn law_worked_batches()
+    ensures first { FirstBatch Hamming zeros 1 first_reads (given_of first row_1 last_two ∷ []) false after_first }
+    ensures second_relaxed { NextBatch 1 20000 Relaxed after_first second_reads (given_of third row_3 last_one ∷ []) false
+        (after_second (hamming_of zeros last_one)) }
+    ensures second_strict { NextBatch 1 20000 Strict after_first second_reads [] false (after_second (hamming_of zeros last_two)) }
+    ensures third { (mode : Mode) (last : Dist) → GoesOn mode → is_less (hamming_of zeros last_three) (Some last) ≡ false
+        → NextBatch 1 20000 mode (after_second last) (look_again second (told_as row_2 last_three) ∷ [])
+        (given_of second row_2 last_three ∷ []) false after_third }
+    ensures end { (mode : Mode) → GoesOn mode → NextBatch 1 20000 mode after_third [] [] true after_third }
+{}
+
+/// A law, and no work. A worked example: between two batches the place of an element that the first batch knew is used anew, with
+/// version 2. The look asks for version 1 and is told that it is gone: the batch gives no row, and is not the last.
+pub fn law_worked_reuse()
+    ensures { (mode : Mode) → GoesOn mode → NextBatch 1 20000 mode before_reuse
+        ((AtList second list_place 0 1 0, Gone) ∷ look_again second Gone ∷ []) [] false after_reuse }
 {}

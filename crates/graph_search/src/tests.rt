@@ -10,7 +10,9 @@ fn laws_of_searches() {
     law_no_entry();
     law_search();
     law_words();
+    law_worked_batches();
     law_worked_insert();
+    law_worked_reuse();
     law_worked_search();
     law_worked_search_of_one();
     law_worked_search_through();

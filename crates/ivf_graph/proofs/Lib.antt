@@ -18,3 +18,5 @@ pub mod OncePlaced
 pub mod CourseExamples
 pub mod Growing
 pub mod Places
+pub mod OnceFound
+pub mod OnceProbed

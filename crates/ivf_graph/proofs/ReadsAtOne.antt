@@ -11,7 +11,8 @@ use Rattle.ivf_graph.specs.Graph.{centres, AreBlocksOwn}
 use Rattle.ivf_graph.specs.Effect.{effect, after, state_after}
 use Rattle.ivf_graph.specs.Legal.{IsAllowed, IsLegal}
 use Rattle.ivf_graph.specs.Answer.{ivf_answer}
-use Rattle.ivf_graph.specs.Reads.{IsRising, IsAnswerFrom, IsAnswerAt}
+use Rattle.vec_history.specs.Acts.{IsRising}
+use Rattle.ivf_graph.specs.Reads.{IsAnswerFrom, IsAnswerAt}
 use Rattle.ivf_graph.proofs.OwnBlocks.{own_after}
 use Rattle.ivf_graph.proofs.SameCentres.{centres_by_event}
 use Rattle.ivf_graph.proofs.ReadsOfOne.{answer_of_one, some_answer}

@@ -9,12 +9,12 @@ use Rattle.vec_history.specs.declared.event.Event.TheVariants as event
 use Rattle.vec_history.specs.declared.event.Act.{Act}
 use Rattle.vec_history.specs.declared.gate.Gate.TheVariants.{Vacuum}
 use Rattle.vec_history.specs.declared.gate.Hold.TheVariants.{Alone}
-use Rattle.vec_history.specs.Acts.{IsActAt}
+use Rattle.vec_history.specs.Acts.{IsActAt, IsRising}
 use Rattle.ivf_graph.specs.declared.graph.IvfGraph.{IvfGraph}
 use Rattle.ivf_graph.specs.Graph.{Row, rows_on, HasRoom}
 use Rattle.ivf_graph.specs.Effect.{state_after}
 use Rattle.ivf_graph.specs.Looks.{next_on, Centre, centre_pages}
-use Rattle.ivf_graph.specs.Reads.{centres_read, is_centre_nearer, IsRising}
+use Rattle.ivf_graph.specs.Reads.{centres_read, is_centre_nearer}
 use Rattle.ivf_graph.specs.Asking.{IsRoomOn, IsLast}
 
 -- ---- turns

@@ -77,4 +77,5 @@ is_row_3 id = (id.block == 1) && (id.off == 3)
 -- a vacuum cuts it, and list 1 comes to aim at its block
 abbrev pub vacuum_acts : List Act
 vacuum_acts =
-    act_of 1 (event.Gate Vacuum Alone) ∷ act_of 1 (event.IvfDrop 3 (1 ∷ [])) ∷ act_of 1 (event.IvfHint 1 3) ∷ act_of 1 (event.Ungate Vacuum) ∷ []
+    act_of 1 (event.Gate Vacuum Alone) ∷ act_of 1 (event.IvfDrop 3 (1 ∷ [])) ∷ act_of 1 (event.IvfHint 1 3)
+    ∷ act_of 1 (event.Ungate Vacuum) ∷ []

@@ -7,5 +7,6 @@ pub mod Answer
 pub mod Looks
 pub mod Reads
 pub mod Lasting
+pub mod Once
 pub mod Courses
 pub mod Examples

@@ -82,5 +82,6 @@ pub data Answer : Type 0 where
 
 -- what the look is told in this state, where the centres have so many places: nothing where the block is not such a one
 abbrev pub told_of : ℕ → IvfGraph → Look → Option Answer
-told_of places g (Look.AtCentres block) = if is_of_centres places g block then Some (Answer.OfCentres (centres_of_block places block g)) else None
+told_of places g (Look.AtCentres block) =
+    if is_of_centres places g block then Some (Answer.OfCentres (centres_of_block places block g)) else None
 told_of places g (Look.AtRows block) = option_map (λ rows. Answer.OfRows (seen_from 1 rows) (next_on g block)) (rows_on g block)

@@ -1,6 +1,7 @@
 -- What a search of the lists answers where each of its reads has a position of its own: first the pages of the centres,
 -- rising, and then the blocks of each probed chain, nearest list first.
 use Rattle.std.specs.Prelude.{◌≡◌, ℕ, ◌+◌, ◌≤◌, Bool, List, [], ◌∷◌, ◌++◌, length, map, take, drop, Option, Some, None}
+use Rattle.vec_history.specs.Acts.{IsRising}
 use Rattle.std.specs.List.{filter_map}
 use Rattle.std.specs.Ordering.{is_lt}
 use Rattle.bit_dist.specs.Distances.{hamming_of}
@@ -48,11 +49,6 @@ pub record IsAnswerFrom (states : List IvfGraph) (lists : ℕ) (query : List Boo
   pub walked : Walks query (drop (centre_pages (length query) lists) states) None
       (firsts query probes (centres_read (length query) 1 (take (centre_pages (length query) lists) states))) found
   pub in_order : answer ≡ answer_of found
-
--- positions do not fall, and lie between these two
-abbrev pub IsRising : ℕ → List ℕ → ℕ → Type 0
-IsRising low [] high = low ≤ high
-IsRising low (n ∷ positions) high = (low ≤ n) × IsRising n positions high
 
 -- the answer of a search whose reads had these positions, which the history reaches, one after the other
 pub record IsAnswerAt (base : IvfGraph) (acts : List Act) (positions : List ℕ) (query : List Bool) (probes : ℕ)

@@ -19,6 +19,8 @@ ghost use Rattle.ivf_graph.specs.declared.graph.IvfGraph.{IvfGraph as Graphs};
 ghost use Rattle.ivf_graph.specs.Courses.{Turn, events_of, aims_at, IsPlacing, IsInsertFrom, IsInsertedAt, IsVacuumedAt};
 ghost use Rattle.ivf_graph.specs.declared.list.IvfList.{IvfList as IvfLists};
 ghost use Rattle.ivf_graph.specs.Lasting.{HasGrown, StandsAt, place_later};
+ghost use Rattle.ivf_graph.specs.Once.{IsProbed, StandsIn, IsFoundOnce};
+ghost use Rattle.vec_history.specs.Acts.{IsRising};
 ghost use Rattle.ivf_graph.specs.Asking.{IsAsked, IsGranted, IsOfAll};
 ghost use Rattle.ivf_graph.specs.Rules.{IsEventAllowed};
 ghost use Rattle.ivf_graph.specs.Legal.{IsLegal};
@@ -101,6 +103,20 @@ pub fn law_still(base: &IvfGraph, acts: &[Act])
     ensures some { (n probes : ℕ) (query : List Bool) → n ≤ length acts.now → length query ≤ MOST_BITS
         → (reads : ℕ) × IsAnswerAt base.now acts.now (replicate reads n) query probes
         (ivf_answer (state_after base.now acts.now n) query probes) }
+{}
+
+/// A search whose reads have positions of their own finds a row once that stands in a list that it probes from before its
+/// first read to after its last: the row is among those found, as it stood when its block was read, and no other row found
+/// is of that block and offset. The answer is the rows found, in order.
+pub fn law_answered_once(base: &IvfGraph, acts: &[Act])
+    requires legal { IsLegal base.now acts.now }
+    requires own { AreBlocksOwn base.now }
+    ensures { (low high list block place probes : ℕ) (row : Row) (positions : List ℕ) (query : List Bool) (answer : List Hit)
+        → length query ≤ MOST_BITS → IsRising low positions high
+        → (a : IsAnswerAt base.now acts.now positions query probes answer)
+        → IsProbed (state_after base.now acts.now low) query probes list
+        → StandsIn base.now acts.now low high list block place row
+        → IsFoundOnce base.now acts.now low high query block place row a.answers.found }
 {}
 
 /// What the rules ask of a desk's next event, other than what a step answers by a word, holds on while other desks act,

@@ -8,9 +8,9 @@
 //! ones. The functions of `law` are laws of those definitions, and do no work. `audit` judges whole histories.
 #![tactic(auto)]
 
+mod applying;
 mod audit;
 mod blocks;
-mod changes;
 mod copies;
 mod graph;
 mod law;
@@ -20,8 +20,8 @@ mod rules;
 pub use audit::audit_ivf;
 pub use graph::IvfGraph;
 pub use law::{
-    law_answer, law_asked, law_blocks, law_chains, law_examples, law_insert, law_later, law_looks,
-    law_reads, law_rows, law_stands, law_still,
+    law_answer, law_answered_once, law_asked, law_blocks, law_chains, law_examples, law_insert,
+    law_later, law_looks, law_reads, law_rows, law_stands, law_still,
 };
 pub use list::IvfList;
 pub use vec_history::AuditFault;

@@ -245,6 +245,7 @@ fn laws_before_any_act(rt: HostRuntime) {
     law_looks(&base);
     law_reads(&base);
     law_still(&base, &acts);
+    law_answered_once(&base, &acts);
     law_insert();
     law_examples();
 }

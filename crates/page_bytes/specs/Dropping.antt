@@ -18,7 +18,8 @@ pub record Gathers (p : Content) (gone bytes : List ℕ) (off at top : ℕ) (res
   pub pointers_are : at + length old_pointers ≡ 20 + 4 * off
   pub bytes_are : upper_of p.items + taken rest + length old_bytes ≡ top
   pub same : bytes
-      ≡ header p.number (lower_of p.items) (upper_of p.items) ++ (line_pointers PAGE_END kept ++ (old_pointers ++ (line_pointers (upper_of p.items + taken rest) rest
+      ≡ header p.number (lower_of p.items) (upper_of p.items)
+      ++ (line_pointers PAGE_END kept ++ (old_pointers ++ (line_pointers (upper_of p.items + taken rest) rest
       ++ (zeros (upper_of p.items - lower_of p.items)
       ++ (stacked rest ++ (old_bytes ++ (stacked kept ++ special p.next p.kind)))))))
 

@@ -156,7 +156,8 @@ FindsPlace least most top bytes at (Err bad) = (next : ℕ → ℕ → Format) �
 abbrev pub PassesPointers : ℕ → ℕ → List ℕ → Result (Unit {0}) ℕ → Type 0
 PassesPointers count upper bytes (Ok done) =
     (upper + room_of (lens_at bytes count) ≡ PAGE_END)
-    × ((gap : ℕ) → bad_place (pointers count gap upper PAGE_END []) bytes 24 ≡ bad_place (fixed (zeros gap) (stack (lens_at bytes count))) bytes (24 + 4 * count))
+    × ((gap : ℕ) → bad_place (pointers count gap upper PAGE_END []) bytes 24
+    ≡ bad_place (fixed (zeros gap) (stack (lens_at bytes count))) bytes (24 + 4 * count))
 PassesPointers count upper bytes (Err bad) = (gap : ℕ) → bad_place (pointers count gap upper PAGE_END []) bytes 24 ≡ bad
 
 -- a header, with where the line pointers end and where the items begin

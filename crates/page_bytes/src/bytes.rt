@@ -1,4 +1,5 @@
 //! Numbers within bytes, their low byte first.
+#![tactic(auto, unfolding(crate::specs::Decoding::half_at, crate::specs::Decoding::word_at, crate::specs::Decoding::long_at, crate::specs::Splice::spliced, crate::specs::Decoding::named_by, crate::specs::Content::round8, crate::specs::Spelling::line_pointer))]
 
 ghost use Rattle.std.specs.Prelude.{◌≡◌, ◌+◌, ◌*◌, ◌/◌, ◌%◌, ◌^◌, ◌≤◌, ◌<◌, ℕ, List, length, slice_index, take, drop};
 ghost use Rattle.page_bytes.specs.Content.{round8};
@@ -21,7 +22,6 @@ pub const NEXT: usize = PAGE_END as usize;
 
 pub const KIND: usize = 8190;
 
-#[tactic(auto, unfolding(crate::specs::Decoding::half_at))]
 pub fn u16_at(bytes: &[u8], at: usize) -> u16
     requires { at + 2 ≤ length bytes.now }
     ensures { result ≡ half_at bytes.now at }
@@ -29,7 +29,6 @@ pub fn u16_at(bytes: &[u8], at: usize) -> u16
     u16::from_le_bytes([bytes[at], bytes[at + 1]])
 }
 
-#[tactic(auto, unfolding(crate::specs::Decoding::half_at, crate::specs::Decoding::word_at))]
 pub fn u32_at(bytes: &[u8], at: usize) -> u32
     requires { at + 4 ≤ length bytes.now }
     ensures { result ≡ word_at bytes.now at }
@@ -37,7 +36,6 @@ pub fn u32_at(bytes: &[u8], at: usize) -> u32
     u32::from_le_bytes([bytes[at], bytes[at + 1], bytes[at + 2], bytes[at + 3]])
 }
 
-#[tactic(auto, unfolding(crate::specs::Decoding::half_at, crate::specs::Decoding::word_at, crate::specs::Decoding::long_at))]
 pub fn u64_at(bytes: &[u8], at: usize) -> u64
     requires { at + 8 ≤ length bytes.now }
     ensures { result ≡ long_at bytes.now at }
@@ -46,7 +44,6 @@ pub fn u64_at(bytes: &[u8], at: usize) -> u64
 }
 
 /// Writes bytes over as many at a place.
-#[tactic(auto, unfolding(crate::specs::Splice::spliced))]
 pub fn put(bytes: &mut [u8], at: usize, part: &[u8])
     requires { at + length part.now ≤ length bytes.old }
     ensures { bytes.new ≡ spliced bytes.old at part.now }
@@ -55,7 +52,6 @@ pub fn put(bytes: &mut [u8], at: usize, part: &[u8])
 }
 
 /// The item that a line pointer names.
-#[tactic(auto, unfolding(crate::specs::Decoding::named_by))]
 pub fn item_named_by(bytes: &[u8], pointer: u32) -> &[u8]
     requires { pointer % 2 ^ 15 + pointer / 2 ^ 17 ≤ length bytes.now }
     ensures { result.now ≡ named_by bytes.now pointer }
@@ -66,7 +62,6 @@ pub fn item_named_by(bytes: &[u8], pointer: u32) -> &[u8]
 }
 
 /// The least multiple of 8 that is at least the length of an item.
-#[tactic(auto, unfolding(crate::specs::Content::round8))]
 pub fn round_up_8(len: usize) -> u16
     requires { len ≤ PAGE_END }
     ensures { result ≡ round8 len }
@@ -75,7 +70,6 @@ pub fn round_up_8(len: usize) -> u16
 }
 
 /// Writes the line pointer of an item, from its place and its length.
-#[tactic(auto, unfolding(crate::specs::Spelling::line_pointer))]
 pub fn put_pointer(bytes: &mut [u8], at: usize, place: u16, len: u32)
     requires within { at + 4 ≤ length bytes.old }
     requires place { place ≤ PAGE_END }
@@ -87,7 +81,6 @@ pub fn put_pointer(bytes: &mut [u8], at: usize, place: u16, len: u32)
 }
 
 /// Changes so many bytes at a place, where they stand.
-#[tactic(auto, unfolding(crate::specs::Splice::spliced))]
 pub fn change_part<C: ItemChange>(bytes: &mut [u8], at: usize, len: usize, change: &C)
     requires within { at + len ≤ length bytes.old }
     requires fits { C.fits change.now (take len (drop at bytes.old)) }

@@ -1,9 +1,9 @@
 -- Events that are read one after the other.
-use Rattle.std.proofs.Common.{◌≡◌, ◌≢◌, ◌==◌, true, false, ℕ, ◌+◌, ◌-◌, ◌<◌, ◌≤◌, List, [], ◌∷◌, ◌++◌, Option, length, take, drop, refl, sym, ap, ◌∙◌, subst, arith, append_assoc, length-append, length-drop, append-nil}
+use Rattle.std.proofs.Common.{◌≡◌, ◌≢◌, ◌==◌, true, false, ℕ, ◌+◌, ◌-◌, ◌<◌, ◌≤◌, List, [], ◌∷◌, ◌++◌, Option, None, ◌*◌, length, take, drop, refl, sym, ap, ◌∙◌, subst, arith, append_assoc, length-append, length-drop, append-nil}
 use Rattle.std.proofs.lemmas.List.{length-take}
 use Rattle.vec_event.specs.declared.fault.EventFault.{EventFault}
 use Rattle.vec_event.specs.declared.fault.EventFault.TheVariants.{Memory}
-use Rattle.page_log.specs.Batches.{Placed, Begins, AreEvents}
+use Rattle.page_log.specs.Batches.{Placed, Begins, AreEvents, room_of}
 use Rattle.vec_event.specs.Spelling.{spelling, IsTyped, IsWritable}
 use Rattle.vec_event.proofs.Readings.{one_event}
 use Rattle.vec_history.specs.declared.event.Event.{Event}
@@ -85,3 +85,14 @@ not_empty (b ∷ left) h is = grind arith
 pub empty : (left : List ℕ) → true ≡ (length left == 0) → left ≡ []
 empty [] yes_ = refl
 empty (b ∷ left) yes_ = grind arith
+
+-- events take five bytes of the room each beside those that they are
+room_covers : (at : ℕ) (bytes : List ℕ) (events : List Placed) → AreEvents at bytes events None → length bytes + 5 * length events ≤ room_of events
+room_covers at bytes [] none = omega (arith, ap length none)
+room_covers at bytes (placed ∷ events) are =
+    let rest = are.1.0 in
+    omega (arith, room_covers (at + length (spelling placed.1)) rest events are.1.2, ap length are.1.1.same, length-append (spelling placed.1) rest)
+
+pub room_of_batch : (at : ℕ) (bytes : List ℕ) (events : List Placed) → AreEvents at bytes events None → 0 < length bytes → 5 + length bytes ≤ room_of events
+room_of_batch at bytes [] none some = absurd (omega (arith, some, ap length none))
+room_of_batch at bytes (placed ∷ events) are some = omega (arith, room_covers at bytes (placed ∷ events) are)

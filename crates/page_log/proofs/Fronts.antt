@@ -2,6 +2,7 @@
 use Rattle.std.proofs.Common.{◌≡◌, ◌≢◌, ℕ, zero, suc, get_or, drop-drop, ◌+◌, ◌-◌, ◌<◌, ◌≤◌, ◌^◌, List, [], ◌∷◌, ◌++◌, length, take, drop, refl, sym, ap, ◌∙◌, subst, arith, length-append, length-drop, append-nil}
 use Rattle.std.specs.Int.{w32, to_le_bytes, from_le_bytes}
 use Rattle.std.proofs.lemmas.List.{length-take, take-append-drop}
+use Rattle.std.proofs.Math.Path.{fun_ext}
 use Rattle.std.proofs.lemmas.Nat.{from_le_bytes-to_le_bytes_4, le_bytes_4}
 use Rattle.page_log.specs.Batches.{IsBatch}
 use Rattle.page_log.specs.Steps.{IsFront, OnlyReads}
@@ -93,3 +94,7 @@ front_is front rest four behind seal len is open_ four_is behind_is size none le
       few = few;
       same = is ∙ ap (λ b. b ∷ rest) open_ ∙ ap (λ bytes. 165 ∷ bytes) (rest_is ∙ sym (le_bytes_4 four len four_size four_small len_is));
     }
+
+-- what is read of every area stays
+pub same_seen : (old new : Disk) → IsKept old new → new.seen ≡ old.seen
+same_seen old new kept = fun_ext kept.seen

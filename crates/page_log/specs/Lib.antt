@@ -1,5 +1,8 @@
 pub mod Batches
 pub mod Epoch
+pub mod ImageSteps
+pub mod OpenCauses
+pub mod Opening
 pub mod Steps
 pub mod Going
 pub mod Parts

@@ -59,6 +59,7 @@ pub fn find_batch<D: Disks>(
     requires { D.told → size ≡ length ((D.disk disks.old).seen area) }
     ensures found { D.told → IfOk result (IsFound ((D.disk disks.old).seen area) at) }
     ensures within { IfOk result (λ found. (bytes : List ℕ) → IsBytes found bytes → at + 5 + length bytes ≤ size) }
+    ensures some { IfOk result (λ found. (bytes : List ℕ) → IsBytes found bytes → 0 < length bytes) }
     ensures only { OnlyReads (D.disk disks.old) (D.disk disks.new) }
     ensures cause { HasCause (D.count disks.old) (D.count disks.new) result }
 {
@@ -87,8 +88,10 @@ fn find_events<D: Disks>(
     requires size { D.told → size ≡ length ((D.disk disks.old).seen area) }
     requires front { D.told → IsFront (take 5 (drop at ((D.disk disks.old).seen area))) len }
     requires within { at + 5 ≤ size }
+    requires some { 0 < len }
     ensures found { D.told → IfOk result (IsFound ((D.disk disks.old).seen area) at) }
     ensures within { IfOk result (λ found. (bytes : List ℕ) → IsBytes found bytes → at + 5 + length bytes ≤ size) }
+    ensures some { IfOk result (λ found. (bytes : List ℕ) → IsBytes found bytes → 0 < length bytes) }
     ensures only { OnlyReads (D.disk disks.old) (D.disk disks.new) }
     ensures cause { HasCause (D.count disks.old) (D.count disks.new) result }
 {

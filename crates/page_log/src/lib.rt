@@ -6,12 +6,16 @@ mod bodies;
 mod events;
 mod finding;
 mod flushing;
+mod front;
 mod going_law;
 mod head;
+mod images;
 mod limits;
 mod log;
 mod log_fault;
 mod log_reading;
+mod opening;
+mod opening_fault;
 mod pending;
 
 pub use flushing::flush_pending;
@@ -19,9 +23,13 @@ pub use going_law::{law_coming, law_going};
 pub use head::Head;
 pub use log::Log;
 pub use log_fault::LogFault;
+pub use opening::{ReadLog, read_all};
+pub use opening_fault::OpenFault;
 pub use pending::Pending;
 
 #[cfg(test)]
 mod log_tests;
+#[cfg(test)]
+mod opening_tests;
 #[cfg(test)]
 mod tests;

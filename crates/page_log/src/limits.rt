@@ -3,6 +3,12 @@
 /// The byte that an open seal is. A closed one is any other.
 pub const OPEN: u8 = 0xA5;
 
+/// The magic of form 1, the text `VECBITS1` as a number.
+pub const FORM_1: u64 = 0x3153_5449_4243_4556;
+
+/// The magic of form 2, the text `VECBITS2` as a number.
+pub const FORM_2: u64 = 0x3253_5449_4243_4556;
+
 /// The bytes of a header, whose last one is the epoch's seal.
 pub const HEAD: usize = 40;
 

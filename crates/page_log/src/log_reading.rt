@@ -27,6 +27,8 @@ fn read_batch<D: Disks>(
     ensures used { IfOk result (λ goes_on. goes_on ≡ true → run.new.used ≤ MOST_USED) }
     ensures fine { IfOk result (λ goes_on. goes_on ≡ true → run.new.bad ≡ None) }
     ensures further { IfOk result (λ goes_on. goes_on ≡ true → (run.old.end < run.new.end) × (run.new.end ≤ size)) }
+    ensures bound { IfOk result (λ goes_on. goes_on ≡ true → run.new.end + run.old.used ≤ run.old.end + run.new.used) }
+    ensures stays { IfOk result (λ goes_on. goes_on ≡ false → (run.new.end ≡ run.old.end) × (run.new.used ≤ MOST_USED)) }
     ensures only { OnlyReads (D.disk disks.old) (D.disk disks.new) }
     ensures cause { HasCause (D.count disks.old) (D.count disks.new) result }
 {
@@ -48,6 +50,7 @@ pub fn read_batches<D: Disks>(
     at: u64,
 ) -> Result<Run, Outage>
     ensures log { D.told → IfOk result (λ run. IsLog ((D.disk disks.old).seen area) at run.events.items run.end run.used run.bad) }
+    ensures range { IfOk result (λ run. (at ≤ run.end) × (run.end ≤ at + MOST_USED) × (run.used ≤ MOST_USED)) }
     ensures only { OnlyReads (D.disk disks.old) (D.disk disks.new) }
     ensures cause { HasCause (D.count disks.old) (D.count disks.new) result }
 {

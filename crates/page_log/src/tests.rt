@@ -40,7 +40,7 @@ fn events_with_their_places(rt: HostRuntime) -> Result<(), AllocError> {
 }
 
 /// A log area of that batch alone: its seal, its length, its events and a closed seal; with a byte changed, and of a length.
-fn area(alloc: Global, place: usize, byte: u8, len: usize) -> Result<Vec<u8>, AllocError> {
+pub fn area(alloc: Global, place: usize, byte: u8, len: usize) -> Result<Vec<u8>, AllocError> {
     let mut log = Vec::new(alloc);
     log.extend_from_slice(&[0xA5, 60, 0, 0, 0])?;
     log.extend_from_slice(&EVENTS)?;

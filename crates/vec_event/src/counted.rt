@@ -1,4 +1,5 @@
 //! Fields that begin with a count: bit values, lists of optional places, offsets.
+#![tactic(auto, unfolding(crate::specs::Reading::bits, crate::specs::Reading::lists, byte_fields::specs::Reading::slot_of, crate::specs::Reading::offsets, crate::specs::Reading::two_bytes_above, byte_fields::specs::Reading::field))]
 
 ghost use Rattle.std.specs.Prelude.{◌≡◌, ◌≤◌};
 ghost use Rattle.byte_fields.specs.Reading.{packed_places};
@@ -12,7 +13,6 @@ use std::alloc::Global;
 use vec_names::{Listed, Tid};
 
 /// A bit value: four bytes of its count of places, and the packed places.
-#[tactic(auto, unfolding(crate::specs::Reading::bits))]
 pub fn bits(alloc: Global, bytes: &[u8]) -> Result<(Bits, &[u8]), Halt>
     ensures { GivesOr (λ x. (x.0, x.1.now)) result (bits bytes.now) }
 {
@@ -34,7 +34,6 @@ fn packed(alloc: Global, count: u32, bytes: &[u8]) -> Result<(Bits, &[u8]), Halt
 }
 
 /// A count of two bytes, at most 1,358, and that many optional places.
-#[tactic(auto, unfolding(crate::specs::Reading::lists, byte_fields::specs::Reading::slot_of))]
 pub fn lists(alloc: Global, bytes: &[u8]) -> Result<(Listed<Option<Tid>>, &[u8]), Halt>
     ensures { GivesOr (λ x. (x.0, x.1.now)) result (lists bytes.now) }
 {
@@ -43,7 +42,6 @@ pub fn lists(alloc: Global, bytes: &[u8]) -> Result<(Listed<Option<Tid>>, &[u8])
 }
 
 /// A count of two bytes, at least 1, and that many offsets, each above the one before.
-#[tactic(auto, unfolding(crate::specs::Reading::offsets))]
 pub fn offsets(alloc: Global, bytes: &[u8]) -> Result<(Listed<u16>, &[u8]), Halt>
     ensures { GivesOr (λ x. (x.0, x.1.now)) result (offsets bytes.now) }
 {
@@ -67,7 +65,6 @@ fn rising(alloc: Global, count: u16, bytes: &[u8]) -> Result<(Listed<u16>, &[u8]
 }
 
 /// A number of two bytes above `low`.
-#[tactic(auto, unfolding(crate::specs::Reading::two_bytes_above, byte_fields::specs::Reading::field))]
 fn two_bytes_above(low: u16, bytes: &[u8]) -> Result<(u16, &[u8]), Stop>
     ensures { Gives (λ x. (x.0, x.1.now)) result (two_bytes_above low bytes.now) }
 {

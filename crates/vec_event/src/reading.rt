@@ -1,4 +1,5 @@
 //! Reading an event.
+#![tactic(auto, unfolding(crate::specs::Reading::event, crate::specs::Reading::fields_of))]
 
 ghost use Rattle.std.specs.Prelude.{◌≡◌, ◌≢◌, ◌≤◌, ◌++◌, ℕ, List, [], length, drop, IfOk, MatchResult};
 ghost use Rattle.vec_event.specs.Reading.{fields_of, event};
@@ -52,7 +53,6 @@ pub fn read_event(alloc: Global, bytes: &[u8]) -> Result<(Event, usize), EventFa
     }
 }
 
-#[tactic(auto, unfolding(crate::specs::Reading::event))]
 fn event(alloc: Global, bytes: &[u8]) -> Result<(Event, &[u8]), Halt>
     ensures { GivesOr (λ x. (x.0, x.1.now)) result (event bytes.now) }
 {
@@ -61,7 +61,6 @@ fn event(alloc: Global, bytes: &[u8]) -> Result<(Event, &[u8]), Halt>
 }
 
 /// The fields of an event of this kind.
-#[tactic(auto, unfolding(crate::specs::Reading::fields_of))]
 fn fields_of(alloc: Global, kind: u8, bytes: &[u8]) -> Result<(Event, &[u8]), Halt>
     ensures { GivesOr (λ x. (x.0, x.1.now)) result (fields_of kind bytes.now) }
 {

@@ -1,4 +1,5 @@
 //! The fields of each kind of event, in their order.
+#![tactic(auto, unfolding(crate::specs::Reading::put, crate::specs::Reading::join, crate::specs::Reading::link, crate::specs::Reading::relist, crate::specs::Reading::drop_ids, crate::specs::Reading::mark, crate::specs::Reading::entry, crate::specs::Reading::hint, crate::specs::Reading::ivf_add, crate::specs::Reading::ivf_grow, crate::specs::Reading::ivf_drop, crate::specs::Reading::ivf_hint))]
 
 ghost use Rattle.std.specs.Prelude.{◌≡◌, length};
 ghost use Rattle.byte_fields.specs.Answers.{Gives, GivesOr};
@@ -13,7 +14,6 @@ use index_sizes::{LAST_BLOCK, MOST_BLOCKS};
 use std::alloc::Global;
 use vec_history::Event;
 
-#[tactic(auto, unfolding(crate::specs::Reading::put))]
 pub fn put(alloc: Global, bytes: &[u8]) -> Result<(Event, &[u8]), Halt>
     ensures { GivesOr (λ x. (x.0, x.1.now)) result (put bytes.now) }
 {
@@ -36,7 +36,6 @@ pub fn put(alloc: Global, bytes: &[u8]) -> Result<(Event, &[u8]), Halt>
     Ok((event, rest))
 }
 
-#[tactic(auto, unfolding(crate::specs::Reading::join))]
 pub fn join(bytes: &[u8]) -> Result<(Event, &[u8]), Halt>
     ensures { GivesOr (λ x. (x.0, x.1.now)) result (join bytes.now) }
 {
@@ -46,7 +45,6 @@ pub fn join(bytes: &[u8]) -> Result<(Event, &[u8]), Halt>
     Ok((Event::Join { at, version, id }, rest))
 }
 
-#[tactic(auto, unfolding(crate::specs::Reading::link))]
 pub fn link(bytes: &[u8]) -> Result<(Event, &[u8]), Halt>
     ensures { GivesOr (λ x. (x.0, x.1.now)) result (link bytes.now) }
 {
@@ -65,7 +63,6 @@ pub fn link(bytes: &[u8]) -> Result<(Event, &[u8]), Halt>
     Ok((event, rest))
 }
 
-#[tactic(auto, unfolding(crate::specs::Reading::relist))]
 pub fn relist(alloc: Global, bytes: &[u8]) -> Result<(Event, &[u8]), Halt>
     ensures { GivesOr (λ x. (x.0, x.1.now)) result (relist bytes.now) }
 {
@@ -82,7 +79,6 @@ pub fn relist(alloc: Global, bytes: &[u8]) -> Result<(Event, &[u8]), Halt>
     Ok((event, rest))
 }
 
-#[tactic(auto, unfolding(crate::specs::Reading::drop_ids))]
 pub fn drop_ids(bytes: &[u8]) -> Result<(Event, &[u8]), Halt>
     ensures { GivesOr (λ x. (x.0, x.1.now)) result (drop_ids bytes.now) }
 {
@@ -92,7 +88,6 @@ pub fn drop_ids(bytes: &[u8]) -> Result<(Event, &[u8]), Halt>
     Ok((Event::Drop { at, version, gone }, rest))
 }
 
-#[tactic(auto, unfolding(crate::specs::Reading::mark))]
 pub fn mark(bytes: &[u8]) -> Result<(Event, &[u8]), Halt>
     ensures { GivesOr (λ x. (x.0, x.1.now)) result (mark bytes.now) }
 {
@@ -107,7 +102,6 @@ pub fn mark(bytes: &[u8]) -> Result<(Event, &[u8]), Halt>
     Ok((event, rest))
 }
 
-#[tactic(auto, unfolding(crate::specs::Reading::entry))]
 pub fn entry(bytes: &[u8]) -> Result<(Event, &[u8]), Halt>
     ensures { GivesOr (λ x. (x.0, x.1.now)) result (entry bytes.now) }
 {
@@ -116,7 +110,6 @@ pub fn entry(bytes: &[u8]) -> Result<(Event, &[u8]), Halt>
     Ok((Event::Entry { to, level }, rest))
 }
 
-#[tactic(auto, unfolding(crate::specs::Reading::hint))]
 pub fn hint(bytes: &[u8]) -> Result<(Event, &[u8]), Halt>
     ensures { GivesOr (λ x. (x.0, x.1.now)) result (hint bytes.now) }
 {
@@ -124,7 +117,6 @@ pub fn hint(bytes: &[u8]) -> Result<(Event, &[u8]), Halt>
     Ok((Event::Hint { block }, rest))
 }
 
-#[tactic(auto, unfolding(crate::specs::Reading::ivf_add))]
 pub fn ivf_add(alloc: Global, bytes: &[u8]) -> Result<(Event, &[u8]), Halt>
     ensures { GivesOr (λ x. (x.0, x.1.now)) result (ivf_add bytes.now) }
 {
@@ -134,7 +126,6 @@ pub fn ivf_add(alloc: Global, bytes: &[u8]) -> Result<(Event, &[u8]), Halt>
     Ok((Event::IvfAdd { block, id, bits }, rest))
 }
 
-#[tactic(auto, unfolding(crate::specs::Reading::ivf_grow))]
 pub fn ivf_grow(alloc: Global, bytes: &[u8]) -> Result<(Event, &[u8]), Halt>
     ensures { GivesOr (λ x. (x.0, x.1.now)) result (ivf_grow bytes.now) }
 {
@@ -153,7 +144,6 @@ pub fn ivf_grow(alloc: Global, bytes: &[u8]) -> Result<(Event, &[u8]), Halt>
     Ok((event, rest))
 }
 
-#[tactic(auto, unfolding(crate::specs::Reading::ivf_drop))]
 pub fn ivf_drop(alloc: Global, bytes: &[u8]) -> Result<(Event, &[u8]), Halt>
     ensures { GivesOr (λ x. (x.0, x.1.now)) result (ivf_drop bytes.now) }
 {
@@ -162,7 +152,6 @@ pub fn ivf_drop(alloc: Global, bytes: &[u8]) -> Result<(Event, &[u8]), Halt>
     Ok((Event::IvfDrop { block, gone }, rest))
 }
 
-#[tactic(auto, unfolding(crate::specs::Reading::ivf_hint))]
 pub fn ivf_hint(bytes: &[u8]) -> Result<(Event, &[u8]), Halt>
     ensures { GivesOr (λ x. (x.0, x.1.now)) result (ivf_hint bytes.now) }
 {

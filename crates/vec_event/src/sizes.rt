@@ -1,4 +1,5 @@
 //! How many bytes an event has.
+#![tactic(auto, using(crate::proofs::Lengths::lengths, crate::proofs::Lengths::bits_length, crate::proofs::Lengths::lists_length, crate::proofs::Lengths::offsets_length), unfolding(crate::specs::Spelling::spelling))]
 
 ghost use Rattle.std.specs.Prelude.{◌≡◌, ◌≤◌, length};
 ghost use Rattle.vec_event.specs.Spelling.{spelling, bits_bytes, lists_bytes, offsets_bytes};
@@ -8,7 +9,6 @@ use vec_history::Event;
 use vec_names::Tid;
 
 /// The number of bytes of an event's spelling; 0 for a passing event, which has none.
-#[tactic(auto, using(crate::proofs::Lengths::lengths), unfolding(crate::specs::Spelling::spelling))]
 pub fn event_size(event: &Event) -> u64
     ensures { result ≡ length (spelling event.now) }
 {
@@ -30,7 +30,6 @@ pub fn event_size(event: &Event) -> u64
 }
 
 /// A bit value's count and its packed places.
-#[tactic(auto, using(crate::proofs::Lengths::bits_length))]
 fn bits_size(bits: &Bits) -> u64
     ensures size { result ≡ length (bits_bytes bits.now) }
     ensures small { result ≤ 8004 }
@@ -39,7 +38,6 @@ fn bits_size(bits: &Bits) -> u64
 }
 
 /// A count, and the optional places.
-#[tactic(auto, using(crate::proofs::Lengths::lists_length))]
 fn lists_size(lists: &[Option<Tid>]) -> u64
     ensures size { result ≡ length (lists_bytes lists.now) }
     ensures small { result ≤ 0x7FFF_FFFF_FFFF_FFFF }
@@ -48,7 +46,6 @@ fn lists_size(lists: &[Option<Tid>]) -> u64
 }
 
 /// A count, and the offsets.
-#[tactic(auto, using(crate::proofs::Lengths::offsets_length))]
 fn offsets_size(offsets: &[u16]) -> u64
     ensures size { result ≡ length (offsets_bytes offsets.now) }
     ensures small { result ≤ 0x8000_0000_0000_0000 }

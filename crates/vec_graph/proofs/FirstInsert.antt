@@ -103,7 +103,8 @@ module _ (base : Graph) (desk : ℕ) (at list_at : Tid) (id : HeapId) (bits : Li
 
   put_may : base.blocks ≡ 1 → base.params.m ≡ 2 → length bits ≡ base.params.bits
       → new_place base 0 ≡ Some (record { at = at; list_at = list_at; version = 1 })
-      → IsPutAllowed base (gate ∷ []) desk at list_at 1 0 bits (None ∷ None ∷ None ∷ None ∷ [])
+      → IsPutAllowed base (gate ∷ []) desk
+      (record { at = at; list_at = list_at; version = 1; level = 0; id = id; bits = bits; lists = None ∷ None ∷ None ∷ None ∷ [] })
   put_may blocks m long place = record {
     update = (Alone, (0, holds desk [] tt));
     placed = inr (place, let few = fewer (fits_one_page base 0) in omega (arith, few, blocks));

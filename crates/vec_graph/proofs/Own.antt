@@ -1,14 +1,12 @@
 -- What a desk has by its own acts, and what lasts of it.
-use Rattle.std.proofs.Common.{◌≡◌, ◌≢◌, ℕ, ◌<◌, ◌≤◌, Bool, List, [], ◌∷◌, ◌++◌, take, length, Option, Some, refl, sym, ap, subst, ◌∙◌, cond, arith, false}
+use Rattle.std.proofs.Common.{◌≡◌, ◌≢◌, ℕ, ◌<◌, ◌≤◌, List, [], ◌∷◌, ◌++◌, take, length, Some, refl, sym, ap, subst, ◌∙◌, cond, arith}
 use Rattle.std.specs.FinMap as fin
 use Rattle.std.specs.Ordering.{is_eq}
 use Rattle.std.specs.Cmp.{tied_itself}
 use Rattle.std.proofs.lemmas.List.{length-take-le, take_all}
 use Rattle.std.proofs.lemmas.Option.{slice_get_within}
 use Rattle.vec_names.specs.declared.tid.Tid.{Tid}
-use Rattle.vec_names.specs.declared.heap_id.HeapId.{HeapId}
 use Rattle.vec_names.specs.Order.{tid_cmp_total}
-use Rattle.vec_history.specs.declared.event.Event.TheVariants as event
 use Rattle.vec_history.specs.declared.event.Act.{Act}
 use Rattle.vec_history.specs.declared.gate.Gate.TheVariants.{Update}
 use Rattle.vec_history.specs.declared.gate.Hold.TheVariants.{Alone}
@@ -19,7 +17,7 @@ use Rattle.vec_graph.specs.declared.node.Node.{Node}
 use Rattle.vec_graph.specs.declared.graph.Graph.{Graph}
 use Rattle.vec_graph.specs.Graph.{IsLiveAt}
 use Rattle.vec_graph.specs.Places.{IsOnBlocks}
-use Rattle.vec_graph.specs.Effect.{after, state_after}
+use Rattle.vec_graph.specs.Effect.{NewNode, put_of, node_of, after, state_after}
 use Rattle.vec_graph.specs.Knowing.{Knows}
 use Rattle.vec_graph.specs.Rules.{IsPutAllowed}
 use Rattle.vec_graph.specs.Legal.{IsAllowed, IsLegal}
@@ -43,26 +41,25 @@ knows_kept base acts n desk at layer met none k =
     }
 
 -- a node that the desk puts it knows up to its level
-module _ (base : Graph) (acts : List Act) (desk : ℕ) (at list_at : Tid) (version level : ℕ) (id : HeapId) (bits : List Bool) (lists : List (Option Tid))
-    (may : IsPutAllowed base acts desk at list_at version level bits lists) where
+module _ (base : Graph) (acts : List Act) (desk : ℕ) (brought : NewNode) (may : IsPutAllowed base acts desk brought) where
   abbrev put : Act
-  put = act_of desk (event.Put at list_at version level id bits lists)
+  put = act_of desk (put_of brought)
 
   new : Node
-  new = record { level = level; version = version; deleted = false; bits = bits; ids = id ∷ []; list_at = list_at; slots = lists }
+  new = node_of brought
 
-  there : fin.get (fin.insert (after base acts).nodes at new) at ≡ Some new
-  there = fin.get-insert tid_cmp_total (after base acts).nodes at new at ∙ ap (λ r. cond (is_eq r) (Some new) (fin.get (after base acts).nodes at)) (tied_itself tid_cmp_total at)
+  there : fin.get (fin.insert (after base acts).nodes brought.at new) brought.at ≡ Some new
+  there = fin.get-insert tid_cmp_total (after base acts).nodes brought.at new brought.at ∙ ap (λ r. cond (is_eq r) (Some new) (fin.get (after base acts).nodes brought.at)) (tied_itself tid_cmp_total brought.at)
 
-  pub put_known : Knows base (acts ++ put ∷ []) desk at level
+  pub put_known : Knows base (acts ++ put ∷ []) desk brought.at brought.level
   unfolding new
   put_known =
       let since = may.update.1.0 in
       let holds = may.update.1.1 in
       let low : since < length acts = slice_get_within acts since _ holds.taken in
       let all : state_after base (acts ++ put ∷ []) (length (acts ++ put ∷ [])) ≡ after base (acts ++ put ∷ []) = ap (after base) (take_all _ (acts ++ put ∷ []) (omega arith)) in
-      let live : IsLiveAt (after base (acts ++ put ∷ [])) at level =
-      subst (λ (g : Graph). IsLiveAt g at level) (sym (after_append base acts (put ∷ [])))
+      let live : IsLiveAt (after base (acts ++ put ∷ [])) brought.at brought.level =
+      subst (λ (g : Graph). IsLiveAt g brought.at brought.level) (sym (after_append base acts (put ∷ [])))
       (record { node = new; stands = there; live = record { not_deleted = refl; has_ids = λ e. absurd cc }; reaches = omega arith }) in
       record {
         hold = may.update.0;
@@ -71,7 +68,7 @@ module _ (base : Graph) (acts : List Act) (desk : ℕ) (at list_at : Tid) (versi
         position = length (acts ++ put ∷ []);
         later = omega (arith, low, one_longer acts put);
         met = omega arith;
-        was_live = subst (λ (g : Graph). IsLiveAt g at level) (sym all) live;
+        was_live = subst (λ (g : Graph). IsLiveAt g brought.at brought.level) (sym all) live;
       }
 
 -- while a desk holds Update alone no other desk makes a node live

@@ -21,7 +21,7 @@ use Rattle.vec_graph.specs.declared.graph.Graph.{Graph}
 use Rattle.vec_graph.specs.Graph.{node_at}
 use Rattle.vec_graph.specs.declared.place.Place.{Place}
 use Rattle.vec_graph.specs.Places.{fresh_place, fresh_at, is_reusable, reused, together_on, apart_on, fresh_on, fits_one_page, next_off, room, element_need, list_need, IsOnBlocks}
-use Rattle.vec_graph.specs.Effect.{effect, after, with_node, with_new, changed, changed_from, joined, linked, relisted, dropped, marked}
+use Rattle.vec_graph.specs.Effect.{NewNode, node_of, effect, after, with_node, with_new, changed, changed_from, joined, linked, relisted, dropped, marked}
 use Rattle.vec_graph.specs.Rules.{IsPlaced, IsEventAllowed, IsPutAllowed, IsEntryAllowed}
 use Rattle.vec_graph.specs.Legal.{IsAllowed, IsLegal}
 use Rattle.vec_graph.proofs.Placing.{after_insert, stands_there, free_place}
@@ -238,25 +238,25 @@ module _ (base : Graph) (acts : List Act) (shaped : IsShaped (after base acts)) 
         none_if_deleted = λ _. refl;
       }
 
-  module _ (at list_at : Tid) (version level : ℕ) (id : HeapId) (bits : List Bool) (lists : List (Option Tid)) (may : IsPutAllowed base acts desk at list_at version level bits lists) where
-    put_shaped : IsShaped (with_new (after base acts) at list_at version level id bits lists)
+  module _ (brought : NewNode) (may : IsPutAllowed base acts desk brought) where
+    put_shaped : IsShaped (with_new (after base acts) brought)
     put_shaped =
-        let spot : Place = record { at = at; list_at = list_at; version = version } in
-        let enough = within_blocks (after base acts) shaped level spot at may.placed in
+        let spot : Place = record { at = brought.at; list_at = brought.list_at; version = brought.version } in
+        let enough = within_blocks (after base acts) shaped brought.level spot brought.at may.placed in
         let s = enough.1 in
         let more = enough.2 in
         let most = enough.3 in
         let first = s.within in
         let second = s.list_within in
-        let new : Node = record { level = level; version = version; deleted = false; bits = bits; ids = id ∷ []; list_at = list_at; slots = lists } in
-        let few : max (after base acts).blocks (max (at.block + 1) (list_at.block + 1)) ≤ MOST_BLOCKS = omega (arith, first, second, more, most) in
-        let free = free_place (after base acts) at level spot (on_blocks_of (after base acts) shaped) may.placed in
+        let new : Node = node_of brought in
+        let few : max (after base acts).blocks (max (brought.at.block + 1) (brought.list_at.block + 1)) ≤ MOST_BLOCKS = omega (arith, first, second, more, most) in
+        let free = free_place (after base acts) brought.at brought.level spot (on_blocks_of (after base acts) shaped) may.placed in
         record {
           nodes = λ q n stands.
-              elim (after_insert (after base acts) at new q n stands) as (λ _. IsShapedNode (after base acts).params.m (after base acts).params.bits (max (after base acts).blocks (max (at.block + 1) (list_at.block + 1))) q n) [
+              elim (after_insert (after base acts) brought.at new q n stands) as (λ _. IsShapedNode (after base acts).params.m (after base acts).params.bits (max (after base acts).blocks (max (brought.at.block + 1) (brought.list_at.block + 1))) q n) [
                 | inl same ↦
-                    subst (λ (k : Node). IsShapedNode (after base acts).params.m (after base acts).params.bits (max (after base acts).blocks (max (at.block + 1) (list_at.block + 1))) q k) (sym same.1)
-                    (subst (λ (t : Tid). IsShapedNode (after base acts).params.m (after base acts).params.bits (max (after base acts).blocks (max (at.block + 1) (list_at.block + 1))) t new) (sym same.0)
+                    subst (λ (k : Node). IsShapedNode (after base acts).params.m (after base acts).params.bits (max (after base acts).blocks (max (brought.at.block + 1) (brought.list_at.block + 1))) q k) (sym same.1)
+                    (subst (λ (t : Tid). IsShapedNode (after base acts).params.m (after base acts).params.bits (max (after base acts).blocks (max (brought.at.block + 1) (brought.list_at.block + 1))) t new) (sym same.0)
                     (record {
                       from_1 = s.from_1;
                       within = omega arith;
@@ -274,7 +274,7 @@ module _ (base : Graph) (acts : List Act) (shaped : IsShaped (after base acts)) 
               ];
           entry = λ q is.
               let was = shaped.entry q is in
-              let now = has_inserted (λ n. n.level ≡ (after base acts).level) (after base acts).nodes at new (λ m stands of_level. sym (free m stands).1 ∙ of_level) q
+              let now = has_inserted (λ n. n.level ≡ (after base acts).level) (after base acts).nodes brought.at new (λ m stands of_level. sym (free m stands).1 ∙ of_level) q
               (record { node = was.node; stands = was.stands; is = was.of_level }) in
               record { node = now.node; stands = now.stands; of_level = now.is };
           no_entry = shaped.no_entry;
@@ -305,7 +305,7 @@ module _ (base : Graph) (acts : List Act) (shaped : IsShaped (after base acts)) 
   }
 
   shaped_step : (e : Event) → IsEventAllowed base acts desk e → IsShaped (effect 255 e (after base acts))
-  shaped_step (Put at list_at version level id bits lists) may = put_shaped at list_at version level id bits lists may
+  shaped_step (Put at list_at version level id bits lists) may = put_shaped _ may
   shaped_step (Join at version id) may =
       by_node at (joined id) may.node may.there.stands refl
       (λ s. with_ids at may.node (may.node.ids ++ id ∷ []) (omega (arith, may.room, length-append may.node.ids (id ∷ []))) (λ deleted. absurd (true≢false (sym deleted ∙ may.there.not_deleted))) s)

@@ -1,5 +1,5 @@
 -- What one allowed act leaves of a graph, in the few facts that the law rests on.
-use Rattle.std.proofs.Common.{◌≡◌, ◌⊎◌, inl, inr, ℕ, zero, suc, ◌≤◌, Bool, false, List, [], ◌∷◌, ◌++◌, length, slice_get, slice_set, Option, Some, None, refl, sym, ap, subst, ◌∙◌, append_assoc, append-nil, arith, true≢false}
+use Rattle.std.proofs.Common.{◌≡◌, ◌⊎◌, inl, inr, ℕ, zero, suc, ◌≤◌, false, List, [], ◌∷◌, ◌++◌, length, slice_get, slice_set, Option, Some, None, refl, sym, ap, subst, ◌∙◌, append_assoc, append-nil, arith, true≢false}
 use Rattle.std.proofs.lemmas.Option.{same_Some, none-some}
 use Rattle.list_values.specs.Masks.{kept}
 use Rattle.vec_names.specs.declared.tid.Tid.{Tid}
@@ -14,7 +14,7 @@ use Rattle.vec_graph.specs.declared.node.Node.{Node}
 use Rattle.vec_graph.specs.declared.graph.Graph.{Graph}
 use Rattle.vec_graph.specs.Graph.{node_at, IsLive, IsLiveAt, IsDoomed, IsDoomedAt, IsUndeletedAt, IsMember, HasMember, slot_layer}
 use Rattle.vec_graph.specs.Places.{IsOnBlocks, IsFree}
-use Rattle.vec_graph.specs.Effect.{effect, after, with_node, with_new, changed, changed_from, joined, linked, relisted, dropped, marked}
+use Rattle.vec_graph.specs.Effect.{NewNode, put_of, node_of, effect, after, with_node, with_new, changed, changed_from, joined, linked, relisted, dropped, marked}
 use Rattle.vec_graph.specs.Knowing.{Knows, IsKnown}
 use Rattle.vec_graph.specs.Lasting.{IsMarkAt, IsIdsEndAt, IsSame, IsSameAt, HasIdsAt}
 use Rattle.vec_graph.specs.Asking.{StandsSo}
@@ -382,38 +382,37 @@ module _ (base : Graph) (acts : List Act) (on : IsOnBlocks (after base acts)) (d
   }
 
   -- a new node: none stood there that is not deleted
-  module _ (at list_at : Tid) (version level : ℕ) (id : HeapId) (bits : List Bool) (lists : List (Option Tid))
-      (may : IsPutAllowed base acts desk at list_at version level bits lists) where
+  module _ (brought : NewNode) (may : IsPutAllowed base acts desk brought) where
     put : Event
-    put = Put at list_at version level id bits lists
+    put = put_of brought
 
     new : Node
-    new = record { level = level; version = version; deleted = false; bits = bits; ids = id ∷ []; list_at = list_at; slots = lists }
+    new = node_of brought
 
-    free : IsFree (after base acts) at level
-    free = free_place (after base acts) at level (record { at = at; list_at = list_at; version = version }) on may.placed
+    free : IsFree (after base acts) brought.at brought.level
+    free = free_place (after base acts) brought.at brought.level (record { at = brought.at; list_at = brought.list_at; version = brought.version }) on may.placed
 
-    none_there : (q : Tid) → q ≡ at → IsUndeletedAt (after base acts) q → ⊥
+    none_there : (q : Tid) → q ≡ brought.at → IsUndeletedAt (after base acts) q → ⊥
     none_there q same u =
-        let at_place : node_at (after base acts) at ≡ Some u.node = subst (λ (t : Tid). node_at (after base acts) t ≡ Some u.node) same u.stands in
+        let at_place : node_at (after base acts) brought.at ≡ Some u.node = subst (λ (t : Tid). node_at (after base acts) t ≡ Some u.node) same u.stands in
         true≢false (sym (free u.node at_place).0 ∙ u.not_deleted)
 
     put_graph : Graph
-    put_graph = with_new (after base acts) at list_at version level id bits lists
+    put_graph = with_new (after base acts) brought
 
     stands_on : (q : Tid) → IsUndeletedAt (after base acts) q → (n : Node) → node_at (after base acts) q ≡ Some n → node_at put_graph q ≡ Some n
     unfolding put_graph
     stands_on q u n stands =
-        let now = has_inserted (λ m. m ≡ n) (after base acts).nodes at _
+        let now = has_inserted (λ m. m ≡ n) (after base acts).nodes brought.at _
         (λ m is same.
-        let was : node_at (after base acts) at ≡ Some m = is in
+        let was : node_at (after base acts) brought.at ≡ Some m = is in
         absurd (true≢false (sym (free m was).0 ∙ ap (λ (k : Node). k.deleted) same ∙ subst (λ (k : Node). k.deleted ≡ false) (same_Some _ _ (sym u.stands ∙ stands)) u.not_deleted)))
         q (record { node = n; stands = stands; is = refl }) in
         now.stands ∙ ap (λ (k : Node). Some k) now.is
 
-    stood : (q : Tid) (n : Node) → node_at put_graph q ≡ Some n → ((q ≡ at) × (n ≡ new)) ⊎ (node_at (after base acts) q ≡ Some n)
+    stood : (q : Tid) (n : Node) → node_at put_graph q ≡ Some n → ((q ≡ brought.at) × (n ≡ new)) ⊎ (node_at (after base acts) q ≡ Some n)
     unfolding put_graph new
-    stood q n stands = after_insert (after base acts) at new q n stands
+    stood q n stands = after_insert (after base acts) brought.at new q n stands
 
     put_step : IsStep base acts desk put (after base acts) put_graph
     unfolding put_graph new put
@@ -434,7 +433,7 @@ module _ (base : Graph) (acts : List Act) (on : IsOnBlocks (after base acts)) (d
           ];
       doomed_back = λ q d.
           elim (stood q d.node d.stands) as (λ _. IsDoomedAt (after base acts) q ⊎ ⊥) [
-            | inl same ↦ absurd (not_empty [] id (sym (ap (λ (n : Node). n.ids) same.1) ∙ d.doomed.no_ids))
+            | inl same ↦ absurd (not_empty [] brought.id (sym (ap (λ (n : Node). n.ids) same.1) ∙ d.doomed.no_ids))
             | inr was ↦ inl (record { node = d.node; stands = was; doomed = d.doomed })
           ];
       doomed_on = λ q d. inl (record { node = d.node; stands = stands_on q (record { node = d.node; stands = d.stands; not_deleted = d.doomed.not_deleted }) d.node d.stands; doomed = d.doomed });
@@ -448,9 +447,9 @@ module _ (base : Graph) (acts : List Act) (on : IsOnBlocks (after base acts)) (d
       same_on = λ q n stands alive. inl (record { node = n; stands = stands_on q (record { node = n; stands = stands; not_deleted = alive }) n stands; same = same_self n alive });
       undeleted_on = λ q u. inl (record { node = u.node; stands = stands_on q u u.node u.stands; not_deleted = u.not_deleted });
       placed_on = λ q list_q high h.
-          let spot : Place = record { at = at; list_at = list_at; version = version } in
-          let now = has_inserted (λ (n : Node). (n.list_at ≡ list_q) × (n.level ≡ high)) (after base acts).nodes at new
-          (λ m is was. (sym (same_list (after base acts) at level spot on may.placed m is) ∙ was.0, sym (free m is).1 ∙ was.1))
+          let spot : Place = record { at = brought.at; list_at = brought.list_at; version = brought.version } in
+          let now = has_inserted (λ (n : Node). (n.list_at ≡ list_q) × (n.level ≡ high)) (after base acts).nodes brought.at new
+          (λ m is was. (sym (same_list (after base acts) brought.at brought.level spot on may.placed m is) ∙ was.0, sym (free m is).1 ∙ was.1))
           q (record { node = h.node; stands = h.stands; is = (h.listed, h.of_level) }) in
           record { node = now.node; stands = now.stands; listed = now.is.0; of_level = now.is.1 };
       ids_on = λ q ids h.
@@ -465,7 +464,7 @@ module _ (base : Graph) (acts : List Act) (on : IsOnBlocks (after base acts)) (d
 
   pub step : (e : Event) → IsEventAllowed base acts desk e → IsStep base acts desk e (after base acts) (effect 255 e (after base acts))
   unfolding g put_graph put
-  step (Put at list_at version level id bits lists) may = put_step at list_at version level id bits lists may
+  step (Put at list_at version level id bits lists) may = put_step _ may
   step (Join at version id) may = by_node _ at (joined id) may.node may.there.stands (join_node at version id may)
   step (Link at list_at version slot to) may = by_node _ at (linked slot to) may.owner may.there.stands (link_node at list_at version slot to may)
   step (Relist at list_at version lists) may = by_node _ at (relisted lists) may.owner may.there.stands (relist_node at list_at version lists may)

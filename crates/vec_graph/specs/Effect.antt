@@ -53,17 +53,43 @@ changed g at change = changed_from g at change (node_at g at)
 abbrev pub blocks_with : Graph → Tid → Tid → ℕ
 blocks_with g at list_at = max g.blocks (max (at.block + 1) (list_at.block + 1))
 
--- the graph with a new node, which has one id
-abbrev pub with_new : Graph → Tid → Tid → ℕ → ℕ → HeapId → List Bool → List (Option Tid) → Graph
-with_new g at list_at version level id bits lists = record g {
-  nodes = insert g.nodes at
-      (record { level = level; version = version; deleted = false; bits = bits; ids = id ∷ []; list_at = list_at; slots = lists });
-  blocks = blocks_with g at list_at;
+-- what a Put brings
+pub record NewNode : Type 0 where
+  pub at : Tid
+  pub list_at : Tid
+  pub version : ℕ
+  pub level : ℕ
+  pub id : HeapId
+  pub bits : List Bool
+  pub lists : List (Option Tid)
+
+-- the Put that brings it
+abbrev pub put_of : NewNode → Event
+put_of new = Put new.at new.list_at new.version new.level new.id new.bits new.lists
+
+-- the new node, which has one id
+abbrev pub node_of : NewNode → Node
+node_of new = record {
+  level = new.level;
+  version = new.version;
+  deleted = false;
+  bits = new.bits;
+  ids = new.id ∷ [];
+  list_at = new.list_at;
+  slots = new.lists;
+}
+
+-- the graph with a new node
+abbrev pub with_new : Graph → NewNode → Graph
+with_new g new = record g {
+  nodes = insert g.nodes new.at (node_of new);
+  blocks = blocks_with g new.at new.list_at;
 }
 
 -- The graph after an event. A passing event leaves it as it is, and so does an event of an index of lists.
 abbrev pub effect : ℕ → Event → Graph → Graph
-effect wrap (Put at list_at version level id bits lists) g = with_new g at list_at version level id bits lists
+effect wrap (Put at list_at version level id bits lists) g =
+    with_new g (record { at = at; list_at = list_at; version = version; level = level; id = id; bits = bits; lists = lists })
 effect wrap (Join at version id) g = changed g at (joined id)
 effect wrap (Link at list_at version slot to) g = changed g at (linked slot to)
 effect wrap (Relist at list_at version lists) g = changed g at (relisted lists)

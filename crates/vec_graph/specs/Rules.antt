@@ -1,5 +1,5 @@
 -- Which event a desk may make after a list of acts: one word for each kind of event. A base is the graph that the acts begin at.
-use Rattle.std.specs.Prelude.{◌≡◌, ℕ, ◌+◌, ◌<◌, ◌≤◌, ◌^◌, ◌≢◌, ◌⊎◌, Bool, false, List, length, Option, Some, None}
+use Rattle.std.specs.Prelude.{◌≡◌, ℕ, ◌+◌, ◌<◌, ◌≤◌, ◌^◌, ◌≢◌, ◌⊎◌, false, List, length, Option, Some, None}
 use Rattle.index_sizes.specs.declared.limits.TheConstants.{MOST_BLOCKS, MOST_IDS}
 use Rattle.index_sizes.specs.Sizes.{slots_of_level}
 use Rattle.vec_names.specs.declared.tid.Tid.{Tid}
@@ -19,7 +19,7 @@ use Rattle.vec_graph.specs.declared.node.Node.{Node}
 use Rattle.vec_graph.specs.declared.graph.Graph.{Graph}
 use Rattle.vec_graph.specs.Graph.{node_at, IsLiveAt, IsDoomed, IsDoomedAt, slot_layer, IsMember}
 use Rattle.vec_graph.specs.Places.{place_on, new_place, new_blocks}
-use Rattle.vec_graph.specs.Effect.{after}
+use Rattle.vec_graph.specs.Effect.{NewNode, after}
 use Rattle.vec_graph.specs.Knowing.{Knows}
 use Rattle.vec_graph.specs.Cleaning.{IsRepaired}
 
@@ -55,14 +55,13 @@ IsPlaced g at level spot =
     (place_on g at.block level ≡ Some spot) ⊎ ((new_place g level ≡ Some spot) × (g.blocks + new_blocks g level ≤ MOST_BLOCKS))
 
 -- A new node: at a place for its level, with a value of the index's length, and neighbours that the desk knows.
-pub record IsPutAllowed (base : Graph) (acts : List Act) (desk : ℕ) (at list_at : Tid) (version level : ℕ) (bits : List Bool)
-    (lists : List (Option Tid)) : Type 0 where
+pub record IsPutAllowed (base : Graph) (acts : List Act) (desk : ℕ) (new : NewNode) : Type 0 where
   pub update : Holds acts desk Update
-  pub placed : IsPlaced (after base acts) at level (record { at = at; list_at = list_at; version = version })
-  pub as_long : length bits ≡ (after base acts).params.bits
-  pub not_high : level ≤ most_level (after base acts).params.m
-  pub as_many : length lists ≡ slots_of_level (after base acts).params.m level
-  pub known : KnowsMembers base acts desk (after base acts).params.m level lists
+  pub placed : IsPlaced (after base acts) new.at new.level (record { at = new.at; list_at = new.list_at; version = new.version })
+  pub as_long : length new.bits ≡ (after base acts).params.bits
+  pub not_high : new.level ≤ most_level (after base acts).params.m
+  pub as_many : length new.lists ≡ slots_of_level (after base acts).params.m new.level
+  pub known : KnowsMembers base acts desk (after base acts).params.m new.level new.lists
 
 -- the node at a place, which has this version and is not deleted
 pub record IsThere (g : Graph) (at : Tid) (version : ℕ) (n : Node) : Type 0 where
@@ -143,7 +142,8 @@ pub record IsHintAllowed (base : Graph) (acts : List Act) (desk block : ℕ) : T
 -- The desk may make the event after these acts. No event of an index of lists is allowed.
 abbrev pub IsEventAllowed : Graph → List Act → ℕ → Event → Type 0
 IsEventAllowed base acts desk (event.Put at list_at version level id bits lists) =
-    IsPutAllowed base acts desk at list_at version level bits lists
+    IsPutAllowed base acts desk
+    (record { at = at; list_at = list_at; version = version; level = level; id = id; bits = bits; lists = lists })
 IsEventAllowed base acts desk (event.Join at version id) = IsJoinAllowed base acts desk at version
 IsEventAllowed base acts desk (event.Link at list_at version slot to) = IsLinkAllowed base acts desk at list_at version slot to
 IsEventAllowed base acts desk (event.Relist at list_at version lists) = IsRelistAllowed base acts desk at list_at version lists

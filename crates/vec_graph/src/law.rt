@@ -14,7 +14,7 @@ ghost use Rattle.vec_history.specs.Settling.{is_lasting};
 ghost use Rattle.vec_graph.specs.Graph.{node_at, HasAllSlots, IsLive, IsLiveAt, IsDoomed, IsDoomedAt, HasLevel, IsMember, layer_slots, slot_layer, entries};
 ghost use Rattle.list_values.specs.Masks.{kept};
 ghost use Rattle.index_sizes.specs.Sizes.{next_version};
-ghost use Rattle.vec_graph.specs.Effect.{effect, after, state_after, AreIdsChanged};
+ghost use Rattle.vec_graph.specs.Effect.{NewNode, put_of, effect, after, state_after, AreIdsChanged};
 ghost use Rattle.vec_history.specs.declared.event.Event.TheVariants as event;
 ghost use Rattle.vec_history.specs.declared.gate.Gate.TheVariants.{Update};
 ghost use Rattle.vec_history.specs.declared.gate.Hold.TheVariants.{Alone};
@@ -64,8 +64,8 @@ pub fn law_entries(base: &Graph, acts: &[Act])
 pub fn law_places(base: &Graph, acts: &[Act])
     requires { IsOnBlocks (after base.now acts.now) }
     ensures on_blocks { (a : Act) → IsOnBlocks (after base.now (acts.now ++ a ∷ [])) }
-    ensures free { (desk version level : ℕ) (at list_at : Tids) (bits : List Bool) (lists : List (Option Tids))
-        → IsPutAllowed base.now acts.now desk at list_at version level bits lists → IsFree (after base.now acts.now) at level }
+    ensures free { (desk : ℕ) (new : NewNode) → IsPutAllowed base.now acts.now desk new
+        → IsFree (after base.now acts.now) new.at new.level }
 {}
 
 /// A place on a block is on that block, and where a node stands there, that is used anew with its list place and
@@ -115,9 +115,8 @@ pub fn law_own(base: &Graph, acts: &[Act])
     ensures knows { (n desk layer : ℕ) (at : Tids) → n ≤ length acts.now
         → NoneFrom acts.now n (λ a. (a.desk ≡ desk) × IsOfGate Update a.event)
         → Knows base.now (take n acts.now) desk at layer → Knows base.now acts.now desk at layer }
-    ensures put { (desk version level : ℕ) (at list_at : Tids) (id : HeapIds) (bits : List Bool) (lists : List (Option Tids))
-        → IsPutAllowed base.now acts.now desk at list_at version level bits lists
-        → Knows base.now (acts.now ++ act_of desk (event.Put at list_at version level id bits lists) ∷ []) desk at level }
+    ensures put { (desk : ℕ) (new : NewNode) → IsPutAllowed base.now acts.now desk new
+        → Knows base.now (acts.now ++ act_of desk (put_of new) ∷ []) desk new.at new.level }
     ensures phase { IsLegal base.now acts.now → (n desk : ℕ) (stage : Stages) → n ≤ length acts.now
         → NoneFrom acts.now n (λ a. (a.desk ≡ desk) × IsOfVacuum a.event) → IsInPhase (take n acts.now) desk stage
         → IsInPhase acts.now desk stage }

@@ -5,11 +5,11 @@
 //! `Cleaning` (what a vacuum has to have cleaned), `Rules` (one word for each kind of event), `Legal`, `Shaped`
 //! (graphs that pages can hold), `Sound` (what a search may rest on), `Lasting` (what lasts of a node), and `Asking` (what
 //! the rules ask of a desk's next event). The functions of `law` are laws of
-//! those definitions, and do no work. `changes` makes what an event makes of a graph, `places` finds where a new
+//! those definitions, and do no work. `applying` makes what an event makes of a graph, `places` finds where a new
 //! node stands, `liveness` tells live nodes from doomed ones. The judge of histories is the crate `graph_judge`.
 #![tactic(auto)]
 
-mod changes;
+mod applying;
 mod graph;
 mod law;
 mod liveness;

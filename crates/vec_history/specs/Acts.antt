@@ -1,5 +1,5 @@
 -- Acts of a history by their numbers. An act's number counts the acts before it; a position n is the state after the first n acts.
-use Rattle.std.specs.Prelude.{◌≡◌, ℕ, ◌<◌, ◌≤◌, List, slice_get, Some}
+use Rattle.std.specs.Prelude.{◌≡◌, ℕ, ◌<◌, ◌≤◌, List, [], ◌∷◌, slice_get, Some}
 use Rattle.vec_history.specs.declared.event.Event.{Event}
 use Rattle.vec_history.specs.declared.event.Act.{Act}
 
@@ -17,3 +17,8 @@ NoneAfter acts k P = (j : ℕ) (a : Act) → k < j → slice_get acts j ≡ Some
 -- no act of number i or later is one of these
 abbrev pub NoneFrom : List Act → ℕ → (Act → Type 0) → Type 0
 NoneFrom acts i P = (j : ℕ) (a : Act) → i ≤ j → slice_get acts j ≡ Some a → P a → ⊥
+
+-- positions do not fall, and lie between these two
+abbrev pub IsRising : ℕ → List ℕ → ℕ → Type 0
+IsRising low [] high = low ≤ high
+IsRising low (n ∷ positions) high = (low ≤ n) × IsRising n positions high

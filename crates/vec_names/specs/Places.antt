@@ -14,7 +14,13 @@ use Rattle.vec_names.specs.declared.heap_id.HeapId.{HeapId}
 unfoldable pub tid_where : (block off : ℕ) (b c d : Bool) → nat_le block LAST_BLOCK ≡ b → nat_le 1 off ≡ c → nat_lt off (2 ^ 16) ≡ d
     → Option Tid
 tid_where block off true true true b c d =
-    Some (record { block = block; off = off; within_blocks = leb-true _ _ b; counted_from_one = leb-true _ _ c; in_two_bytes = ltb-true _ _ d })
+    Some (record {
+      block = block;
+      off = off;
+      within_blocks = leb-true _ _ b;
+      counted_from_one = leb-true _ _ c;
+      in_two_bytes = ltb-true _ _ d;
+    })
 tid_where block off true true false b c d = None
 tid_where block off true false _ b c d = None
 tid_where block off false _ _ b c d = None
@@ -26,7 +32,13 @@ tid_of block off = tid_where block off _ _ _ refl refl refl
 unfoldable pub heap_id_where : (block off : ℕ) (b c d : Bool) → nat_lt block 0xFFFFFFFF ≡ b → nat_le 1 off ≡ c → nat_lt off (2 ^ 16) ≡ d
     → Option HeapId
 heap_id_where block off true true true b c d =
-    Some (record { block = block; off = off; within_blocks = ltb-true _ _ b; counted_from_one = leb-true _ _ c; in_two_bytes = ltb-true _ _ d })
+    Some (record {
+      block = block;
+      off = off;
+      within_blocks = ltb-true _ _ b;
+      counted_from_one = leb-true _ _ c;
+      in_two_bytes = ltb-true _ _ d;
+    })
 heap_id_where block off true true false b c d = None
 heap_id_where block off true false _ b c d = None
 heap_id_where block off false _ _ b c d = None

@@ -4,12 +4,17 @@ use Rattle.std.proofs.lemmas.List.{drop-drop, take_at, drop_at, length-take-le}
 use Rattle.std.specs.declared.alloc.Global.{Global}
 use Rattle.vec_outside.specs.declared.disks.Area.{Area}
 use Rattle.vec_outside.specs.declared.disks.Area.TheVariants.{Pages, Log0, Log1}
+use Rattle.vec_outside.specs.declared.timeline.Write.{Write}
 use Rattle.vec_outside.specs.declared.timeline.Call.{Call}
 use Rattle.vec_outside.specs.declared.timeline.Call.TheVariants.{Wrote, Synced}
 use Rattle.vec_outside.specs.Disk.{Image, IsTorn, Elapses, IsKept, IsWritten, spliced}
 use Rattle.vec_outside.specs.Areas.{is_same}
-use Rattle.vec_outside.specs.MemWrite.{write_of}
+use Rattle.vec_outside.specs.MemWrite.{write_of, IsWriteOf}
 use Rattle.vec_outside.specs.MemDisk.{MayMake, before_call, Leaves, Since, left_by_sync, disk_of, now_left, IsPending}
+
+-- a write is known by its parts
+pub as_write : (write : Write) (area : Area) (at n : ℕ) → IsWriteOf area at n write → write ≡ write_of area at n write.was write.refused
+as_write write area at n is = λ i. record { area = is.area_is i; at = is.at_is i; len = is.len_is i; was = write.was; refused = write.refused }
 
 pub elapses_none : (now : Image) (calls : List Call) → Elapses (disk_of now calls) (disk_of now calls)
 elapses_none now calls = record { later = omega arith; nothing_else = λ t image le since. inl since; keeps = λ t image le since. since }

@@ -11,7 +11,8 @@ use Rattle.vec_outside.specs.declared.timeline.Timeline.{Timeline}
 
 -- the bytes of an area before a call
 abbrev pub before_call : Call → Area → List ℕ → List ℕ
-before_call (Wrote write) area now = if is_same write.area area then take write.at now ++ write.was.items ++ drop (write.at + write.len) now else now
+before_call (Wrote write) area now =
+    if is_same write.area area then take write.at now ++ write.was.items ++ drop (write.at + write.len) now else now
 before_call (Synced synced) area now = now
 
 -- the call synced the area
@@ -67,11 +68,13 @@ pub now_left : (area : Area) (now : List ℕ) (calls : List Call) → Leaves are
 now_left area now [] = refl
 now_left area now (call ∷ earlier) = inl refl
 
-pub now_counts : (now : Image) (calls : List Call) (t : ℕ) (image : Image) → ((area : Area) → Leaves area (now area) calls (image area)) → Since now calls t image
+pub now_counts : (now : Image) (calls : List Call) (t : ℕ) (image : Image)
+    → ((area : Area) → Leaves area (now area) calls (image area)) → Since now calls t image
 now_counts now [] t image is = is
 now_counts now (call ∷ earlier) t image is = inl is
 
-pub now_only : (now : Image) (calls : List Call) (image : Image) → Since now calls (length calls) image → (area : Area) → Leaves area (now area) calls (image area)
+pub now_only : (now : Image) (calls : List Call) (image : Image) → Since now calls (length calls) image → (area : Area)
+    → Leaves area (now area) calls (image area)
 now_only now [] image since = since
 now_only now (call ∷ earlier) image (inl is) = is
 now_only now (call ∷ earlier) image (inr before) = absurd (omega arith)

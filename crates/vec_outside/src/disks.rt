@@ -76,7 +76,8 @@ pub trait Disks {
     ghost leaves_told: { (self : Self) (area : Area) (bytes : List ℕ) → (disk self).leaves area bytes → told };
 
     /// This moment is one of those since an earlier one.
-    ghost counts_now: { (self : Self) (t : ℕ) (image : Image) → t ≤ (disk self).moment → IsImage (disk self) image → (disk self).left_since t image };
+    ghost counts_now: { (self : Self) (t : ℕ) (image : Image) → t ≤ (disk self).moment → IsImage (disk self) image
+        → (disk self).left_since t image };
 
     /// Since this moment there is no other.
     ghost only_now: { (self : Self) (image : Image) → (disk self).left_since (disk self).moment image → IsImage (disk self) image };

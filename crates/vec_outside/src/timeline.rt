@@ -7,7 +7,7 @@ ghost use Rattle.vec_outside.specs.Disk.{Elapses, IsKept, IsTorn, IsWritten, IsD
 ghost use Rattle.std.specs.declared.alloc.Global.{Global};
 ghost use Rattle.vec_outside.specs.declared.disks.Area.{Area};
 ghost use Rattle.vec_outside.specs.declared.timeline.Call.TheVariants.{Wrote};
-ghost use Rattle.vec_outside.specs.MemWrite.{write_of};
+ghost use Rattle.vec_outside.specs.MemWrite.{IsWriteOf};
 
 use crate::Area;
 use crate::areas::{Areas, replaced};
@@ -48,32 +48,28 @@ fn refused_bytes(alloc: Global, bytes: &[u8], takes: bool) -> Result<Vec<u8>, Al
     Ok(refused)
 }
 
-// Keeps that a range of an area was written, with the bytes that stand there.
-fn note(
-    done: &mut VecDeque<Call>,
+// A write of a range of an area, with the bytes that stand there.
+fn write_over(
     alloc: Global,
     area: Area,
     now: &[u8],
     at: usize,
     bytes: &[u8],
     takes: bool,
-) -> Result<(), AllocError>
+) -> Result<Write, AllocError>
     requires { at ≤ length now.now }
-    ensures ok { OnOk result ((was : Vec ℕ Global) × (refused : Vec ℕ Global)
-        × (done.new.items ≡ Wrote (write_of area at (length bytes.now) was refused) ∷ done.old.items)
-        × (was.items ≡ take (length bytes.now) (drop at now.now))) }
-    ensures err { OnErr result (done.new.items ≡ done.old.items) }
+    ensures whole { IfOk result (λ write. IsWriteOf area at (length bytes.now) write) }
+    ensures was { IfOk result (λ write. write.was.items ≡ take (length bytes.now) (drop at now.now)) }
 {
     let was = replaced(alloc, now, at, bytes.len())?;
     let refused = refused_bytes(alloc, bytes, takes)?;
-    done.push_front(Call::Wrote(Write {
+    Ok(Write {
         area,
         at,
         len: bytes.len(),
         was,
         refused,
-    }))?;
-    Ok(())
+    })
 }
 
 impl Timeline {
@@ -102,7 +98,8 @@ impl Timeline {
         ensures time { Elapses (timeline_disk self.old) (timeline_disk self.new) }
     {
         let now = self.areas.bytes(area);
-        note(&mut self.done, alloc, area, now, at, bytes, takes)?;
+        let write = write_over(alloc, area, now, at, bytes, takes)?;
+        self.done.push_front(Call::Wrote(write))?;
         self.areas.overwrite_if(takes, area, at, bytes)
     }
 

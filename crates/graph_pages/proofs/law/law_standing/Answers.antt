@@ -1,5 +1,6 @@
 use Rattle.graph_pages.proofs.SameGraph.{same_graph}
 use Rattle.graph_pages.proofs.StandingShape as shape
+use Rattle.graph_pages.proofs.PageShape.{shaped}
 use Rattle.graph_pages.proofs.law.law_standing.Goals as goal
 
 pub returns-clause-one_graph : goal.returns-clause-one_graph
@@ -16,3 +17,6 @@ returns-clause-of_kind c = shape.of_kind
 
 pub returns-clause-all_slots : goal.returns-clause-all_slots
 returns-clause-all_slots c = shape.all_slots
+
+pub returns-clause-shaped : goal.returns-clause-shaped
+returns-clause-shaped c = shaped

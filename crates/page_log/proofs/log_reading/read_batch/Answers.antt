@@ -1,7 +1,7 @@
-use Rattle.std.proofs.Common.{sym, subst}
+use Rattle.std.proofs.Common.{length, sym, ap, subst, arith}
 use Rattle.page_log.specs.Batches.{IsBatch}
 use Rattle.page_log.specs.Steps.{IsFound}
-use Rattle.page_log.proofs.Runs.{closed, ends_bad, ends_at}
+use Rattle.page_log.proofs.Runs.{closed, ends_bad, ends_at, some_in, bound_of}
 use Rattle.page_log.proofs.log_reading.read_batch.Goals as goal
 
 pub returns-in-Closed-clause-stops : goal.returns-in-Closed-clause-stops
@@ -21,3 +21,8 @@ returns-in_ok-take_batch-in-Batch-clause-stops g c told stops =
     let batch : IsBatch area c.args.run.now.end c.in-Batch.bytes.items = subst (λ found. IsFound area c.args.run.now.end found) c.in-Batch.is (c.in_ok-find_batch.ensures.found told) in
     ends_at area c.args.run.now c.take_batch.new.run c.deref.result.now
     (subst (λ bytes. IsBatch area c.args.run.now.end bytes) (sym c.deref.ensures.value) batch) (c.in_ok-take_batch-in-Batch.ensures.stops stops)
+
+pub returns-in_ok-take_batch-in-Batch-clause-bound : goal.returns-in_ok-take_batch-in-Batch-clause-bound
+returns-in_ok-take_batch-in-Batch-clause-bound g c goes_on =
+    let some = some_in c.in_ok-find_batch.field-0 c.in-Batch.bytes c.in-Batch.is c.in_ok-find_batch.ensures.some in
+    bound_of c.args.run.now c.take_batch.new.run c.deref.result.now (c.in_ok-take_batch-in-Batch.ensures.whole goes_on) (omega (arith, some, ap length c.deref.ensures.value))

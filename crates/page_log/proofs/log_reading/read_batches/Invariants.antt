@@ -1,4 +1,4 @@
-use Rattle.std.proofs.Common.{◌≡◌, ◌≤◌, ◌-◌, length, None}
+use Rattle.std.proofs.Common.{◌≡◌, ◌+◌, ◌≤◌, ◌-◌, length, None}
 use Rattle.page_log.specs.Steps.{OnlyReads}
 use Rattle.page_log.specs.declared.limits.TheConstants.{MOST_USED}
 use Rattle.page_log.proofs.Runs.{IsRun}
@@ -7,6 +7,7 @@ use Rattle.page_log.proofs.log_reading.read_batches.Given as goal
 abbrev pub invariant-loop-run : goal.invariant-loop-run
 invariant-loop-run g l = record {
   used : l.run.used ≤ MOST_USED;
+  end : (l.at ≤ l.run.end) × (l.run.end ≤ l.at + l.run.used);
   fine : l.run.bad ≡ None;
   size : g.D.Disks.told → l.size ≡ length ((g.D.Disks.disk l.fn.disks).seen l.area);
   run : g.D.Disks.told → IsRun ((g.D.Disks.disk l.fn.disks).seen l.area) l.at l.run;

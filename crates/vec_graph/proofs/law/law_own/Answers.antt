@@ -6,7 +6,7 @@ pub returns-clause-knows : goal.returns-clause-knows
 returns-clause-knows c = λ n desk layer at met none k. knows_kept c.args.base.now c.args.acts.now n desk at layer met none k
 
 pub returns-clause-put : goal.returns-clause-put
-returns-clause-put c = λ desk version level at list_at id bits lists may. put_known c.args.base.now c.args.acts.now desk at list_at version level id bits lists may
+returns-clause-put c = λ desk new may. put_known c.args.base.now c.args.acts.now desk new may
 
 pub returns-clause-phase : goal.returns-clause-phase
 returns-clause-phase c = λ legal n desk stage met none was. phase_stays c.args.base.now desk stage c.args.acts.now legal n met none was

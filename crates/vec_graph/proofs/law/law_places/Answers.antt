@@ -7,5 +7,5 @@ pub returns-clause-on_blocks : goal.returns-clause-on_blocks
 returns-clause-on_blocks c = λ a. on_after c.args.base.now c.args.acts.now a c.requires
 
 pub returns-clause-free : goal.returns-clause-free
-returns-clause-free c = λ desk version level at list_at bits lists may.
-    free_place (after c.args.base.now c.args.acts.now) at level (record { at = at; list_at = list_at; version = version }) c.requires may.placed
+returns-clause-free c = λ desk new may.
+    free_place (after c.args.base.now c.args.acts.now) new.at new.level (record { at = new.at; list_at = new.list_at; version = new.version }) c.requires may.placed

@@ -1,0 +1,5 @@
+pub mod RedoneThere
+pub mod Replays
+pub mod Placed
+pub mod AllowedFits
+pub mod LegalReplay

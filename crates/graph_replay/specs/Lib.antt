@@ -1,0 +1,2 @@
+-- The definition: replay of a log's events on the pages of a graph.
+pub mod Replaying

@@ -1,0 +1,2 @@
+-- Reads of a desk that holds the gate Scan.
+pub mod Reading
