@@ -28,6 +28,8 @@ pub use opening_fault::OpenFault;
 pub use pending::Pending;
 
 #[cfg(test)]
+mod log_tests;
+#[cfg(test)]
 mod opening_tests;
 #[cfg(test)]
 mod tests;
