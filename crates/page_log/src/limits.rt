@@ -17,3 +17,6 @@ pub const IMAGE: usize = 8_196;
 
 /// The most bytes that the events of an epoch may take, each with 5 bytes more than its own.
 pub const MOST_USED: u64 = 268_435_456;
+
+/// How many bytes of a batch are read at a time, unless an event is longer.
+pub const PIECE: u64 = 65_536;
