@@ -1,5 +1,5 @@
 -- A batch by its front: its seal and its length.
-use Rattle.std.proofs.Common.{◌≡◌, ◌≢◌, ℕ, zero, suc, get_or, drop-drop, ◌+◌, ◌-◌, ◌<◌, ◌≤◌, ◌^◌, List, [], ◌∷◌, ◌++◌, length, take, drop, refl, sym, ap, ◌∙◌, subst, arith, length-append, length-drop, append-nil}
+use Rattle.std.proofs.Common.{◌≡◌, ◌≢◌, ℕ, zero, suc, get_or, drop-drop, ◌+◌, ◌-◌, ◌<◌, ◌≤◌, ◌^◌, min, List, [], ◌∷◌, ◌++◌, length, take, drop, refl, sym, ap, ◌∙◌, subst, arith, length-append, length-drop, append-nil}
 use Rattle.std.specs.Int.{w32, to_le_bytes, from_le_bytes}
 use Rattle.std.proofs.lemmas.List.{length-take, take-append-drop}
 use Rattle.std.proofs.Math.Path.{fun_ext}
@@ -98,3 +98,11 @@ front_is front rest four behind seal len is open_ four_is behind_is size none le
 -- what is read of every area stays
 pub same_seen : (old new : Disk) → IsKept old new → new.seen ≡ old.seen
 same_seen old new kept = fun_ext kept.seen
+
+-- a front that was read of an area of this size
+pub front_there : (area front : List ℕ) (at size len : ℕ) → size ≡ length area → front ≡ take (min (size - at) 5) (drop at area) → IsFront front len
+    → IsFront (take 5 (drop at area)) len
+front_there area front at size len is read f =
+    let five : min (size - at) 5 ≡ 5 = omega (arith, is, ap length f.same, ap length read, length-take (min (size - at) 5) (drop at area), length-drop at area) in
+    let same : front ≡ take 5 (drop at area) = read ∙ ap (λ n. take n (drop at area)) five in
+    subst (λ front. IsFront front len) same f

@@ -2,6 +2,7 @@ pub mod EventRuns
 pub mod Fronts
 pub mod HeadParts
 pub mod ImageRuns
+pub mod PieceRuns
 pub mod Runs
 pub mod SpelledEvents
 pub mod Seals

@@ -1,18 +1,17 @@
 -- Batches that are read one after the other.
-use Rattle.std.proofs.Common.{◌≡◌, inl, inr, ℕ, ◌+◌, ◌<◌, ◌≤◌, Vec, List, [], ◌∷◌, ◌++◌, Option, Some, None, length, take, drop, refl, sym, ap, ◌∙◌, subst, arith, append_assoc, length-append, append-nil}
+use Rattle.std.proofs.Common.{◌≡◌, inl, inr, ℕ, ◌+◌, ◌<◌, ◌≤◌, List, [], ◌∷◌, ◌++◌, Option, Some, None, is_some, true, ◌-◌, length, take, drop, refl, sym, ap, ◌∙◌, subst, arith, append_assoc, length-append, append-nil}
 use Rattle.std.specs.List.{flat_map}
-use Rattle.std.proofs.lemmas.List.{take_at}
+use Rattle.std.proofs.lemmas.List.{take_at, take_rest, drop_at}
 use Rattle.std.proofs.lemmas.Grind.{flat_map-append}
 use Rattle.page_log.specs.Batches.{Placed, Tail, Begins, AreEvents, AreBatches, IsBatch, IsRefused, IsOpenAt, IsLog, EndsBy, room_of}
-use Rattle.page_log.specs.Steps.{TakesWhole, TakesTooMuch, TakesPart, StopsAt, GoesOn, Ends, IsBytes}
+use Rattle.page_log.specs.Steps.{TakesTooMuch, TakesPart, StopsAt, GoesOn, Ends, LiesIn}
 use Rattle.page_log.specs.declared.batches.Run.{Run}
 use Rattle.page_log.proofs.Fronts.{front_of, one_front}
 use Rattle.vec_event.specs.Spelling.{spelling}
 use Rattle.std.specs.Int.{w32, to_le_bytes}
-use Rattle.page_log.proofs.EventRuns.{some_bytes, room_of_batch}
+use Rattle.page_log.proofs.EventRuns.{some_bytes}
 use Rattle.page_log.specs.declared.finding.Found.{Found}
 use Rattle.page_log.specs.declared.finding.Found.TheVariants.{Batch}
-use Rattle.std.specs.declared.alloc.Global.{Global}
 use Rattle.vec_event.proofs.Readings.{one_event}
 use Rattle.vec_history.specs.declared.event.Event.{Event}
 
@@ -99,15 +98,27 @@ pub ends_at : (area : List ℕ) (old new : Run) (bytes : List ℕ) → IsBatch a
 ends_at area old new bytes batch (inl t) = ends_over area old new bytes batch t
 ends_at area old new bytes batch (inr t) = ends_within area old new bytes batch t
 
--- ---- what a batch takes
+pub lies_in : (size at : ℕ) (found : Found) (len : ℕ) → found ≡ Batch len → LiesIn size at found → (0 < len) × (at + 5 + len ≤ size)
+lies_in size at found len is lies = subst (LiesIn size at) is lies
 
-pub some_in : (found : Found) (bytes : Vec ℕ Global) → found ≡ Batch bytes → ((these : List ℕ) → IsBytes found these → 0 < length these) → 0 < length bytes.items
-some_in found bytes is all =
-    subst (λ found. ((these : List ℕ) → IsBytes found these → 0 < length these) → 0 < length bytes.items) (sym is) (λ all. all bytes.items refl) all
+-- events that were kept, before one that can't be read
+pub takes_part : (old new : Run) (bytes : List ℕ) (more kept : List Placed) (bad : Option ℕ) (left : ℕ) → AreEvents (old.end + 5) bytes more bad → is_some bad ≡ true
+    → new.events.items ≡ old.events.items ++ more → kept ≡ more → left + room_of kept ≡ 268435456 - old.used → old.used ≤ 268435456 → new.used ≡ 268435456 - left
+    → new.end ≡ old.end → new.bad ≡ bad → TakesPart old new bytes
+takes_part old new bytes more kept None left are some items same room fits used end bad = absurd (cc)
+takes_part old new bytes more kept (Some place) left are some items same room fits used end bad = record {
+  more = more;
+  place = place;
+  are = are;
+  events = items;
+  used = omega (arith, room, fits, used, ap room_of same);
+  fits = omega (arith, used);
+  end_is = end;
+  bad_is = bad;
+}
 
--- a whole batch takes no fewer bytes of the room than it has
-pub bound_of : (old new : Run) (bytes : List ℕ) → TakesWhole old new bytes → 0 < length bytes → new.end + old.used ≤ old.end + new.used
-bound_of old new bytes t some = omega (arith, t.used, t.end_is, room_of_batch (old.end + 5) bytes t.more t.are some)
+pub behind_old : (items old more : List Placed) (before : ℕ) → items ≡ old ++ more → before ≡ length old → take (length items - before) (drop before items) ≡ more
+behind_old items old more before is size = take_rest items before ∙ ap (drop before) is ∙ drop_at old more before (sym size)
 
 -- ---- the loop
 

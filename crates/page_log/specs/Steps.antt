@@ -1,12 +1,42 @@
 -- What finding and reading one batch makes of what was read before.
-use Rattle.std.specs.Prelude.{◌≡◌, ◌⊎◌, ℕ, ◌+◌, ◌<◌, ◌≤◌, ◌∷◌, ◌^◌, ◌++◌, List, [], Option, Some, None, length}
+use Rattle.std.specs.Prelude.{◌≡◌, ◌≢◌, ◌⊎◌, ℕ, ◌+◌, ◌*◌, ◌<◌, ◌≤◌, ◌∷◌, ◌^◌, ◌++◌, Bool, true, List, [], Option, Some, None, length, take, drop}
 use Rattle.std.specs.Int.{w32, to_le_bytes}
-use Rattle.page_log.specs.Batches.{Placed, AreEvents, AreBatches, IsBatch, IsOpenAt, room_of}
+use Rattle.page_log.specs.Batches.{Placed, Begins, AreEvents, AreBatches, IsBatch, IsOpenAt, room_of}
 use Rattle.page_log.specs.declared.finding.Found.{Found}
 use Rattle.page_log.specs.declared.finding.Found.TheVariants.{Closed, Bad, Batch}
+use Rattle.vec_event.specs.Spelling.{spelling}
+use Rattle.vec_history.specs.declared.event.Event.{Event}
 use Rattle.vec_outside.specs.Disk.{Disk, IsImage, IsKept, LeavesOnly}
 use Rattle.page_log.specs.declared.batches.Run.{Run}
+use Rattle.page_log.specs.declared.events.Piece.{Piece}
 use Rattle.page_log.specs.declared.limits.TheConstants.{MOST_USED, OPEN}
+
+-- ---- events by pieces
+
+-- the bytes, the first of which stands at a place, begin with these events one after the other, and go on with the rest
+abbrev pub AreFirst : ℕ → List ℕ → List Placed → List ℕ → Type 0
+AreFirst at bytes [] rest = bytes ≡ rest
+AreFirst at bytes (placed ∷ events) rest =
+    (placed.0 ≡ at) × ((behind : List ℕ) × Begins bytes placed.1 behind × AreFirst (at + length (spelling placed.1)) behind events rest)
+
+-- no event begins these bytes, and where they are bad, none does whatever follows them
+abbrev pub BeginNone : List ℕ → Type 0
+BeginNone bytes = (event : Event) (rest : List ℕ) → ¬ Begins bytes event rest
+
+abbrev pub IsBad : List ℕ → Type 0
+IsBad bytes = (more : List ℕ) → BeginNone (bytes ++ more)
+
+-- the events that stand whole at the front of a piece were added
+pub record AddsFirst (at : ℕ) (bytes : List ℕ) (old new : List Placed) (piece : Piece) : Type 0 where
+  pub more : List Placed
+  pub items : new ≡ old ++ more
+  pub rest : List ℕ
+  pub first : AreFirst at bytes more rest
+  pub len_is : piece.len + length rest ≡ length bytes
+  pub none : BeginNone rest
+  pub bad : piece.bad ≡ true → IsBad rest
+
+-- ---- batches
 
 -- all of its events are read, and have room
 pub record TakesWhole (old new : Run) (bytes : List ℕ) : Type 0 where
@@ -43,6 +73,13 @@ pub record TakesPart (old new : Run) (bytes : List ℕ) : Type 0 where
 abbrev pub StopsAt : Run → Run → List ℕ → Type 0
 StopsAt old new bytes = TakesTooMuch old new bytes ⊎ TakesPart old new bytes
 
+-- A batch with so many bytes of events was taken in whole: it takes no fewer bytes of the room than it has.
+pub record Moves (old new : Run) (len : ℕ) : Type 0 where
+  pub end_is : new.end ≡ old.end + 5 + len
+  pub covers : 5 + len + old.used ≤ new.used
+  pub fits : new.used ≤ MOST_USED
+  pub bad_is : new.bad ≡ None
+
 -- ---- on disks
 
 -- a run of calls that write nothing
@@ -56,17 +93,21 @@ pub record IsFront (front : List ℕ) (len : ℕ) : Type 0 where
   pub few : len < 2 ^ 32
   pub same : front ≡ OPEN ∷ to_le_bytes w32 len
 
--- what stands at a place of an area: no open seal, one with no batch, or a batch
+-- so many bytes of an area behind the front of a batch
+abbrev pub bytes_of : List ℕ → ℕ → ℕ → List ℕ
+bytes_of area at len = take len (drop (at + 5) area)
+
+-- what stands at a place of an area: no open seal, one with no batch, or a batch with so many bytes of events
 abbrev pub IsFound : List ℕ → ℕ → Found → Type 0
 IsFound area at Closed = ¬ IsOpenAt area at
 IsFound area at Bad = IsOpenAt area at × ((bytes : List ℕ) → ¬ IsBatch area at bytes)
-IsFound area at (Batch bytes) = IsBatch area at bytes.items
+IsFound area at (Batch len) = IsBatch area at (bytes_of area at len)
 
--- it is a batch with these bytes of events
-abbrev pub IsBytes : Found → List ℕ → Type 0
-IsBytes Closed bytes = ⊥
-IsBytes Bad bytes = ⊥
-IsBytes (Batch found) bytes = bytes ≡ found.items
+-- it is a batch with so many bytes of events, which lies within so many
+abbrev pub LiesIn : ℕ → ℕ → Found → Type 0
+LiesIn size at Closed = Unit {0}
+LiesIn size at Bad = Unit {0}
+LiesIn size at (Batch len) = (0 < len) × (at + 5 + len ≤ size)
 
 -- a batch was taken in whole
 pub record GoesOn (area : List ℕ) (old new : Run) : Type 0 where

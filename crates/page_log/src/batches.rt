@@ -2,12 +2,14 @@
 
 ghost use Rattle.std.specs.Prelude.{◌≡◌, ◌⊎◌, ◌+◌, ◌-◌, ◌<◌, ◌≤◌, ◌^◌, ◌++◌, [], ℕ, List, Option, Some, None, length, true, false, IfOk, MatchOption, vec_len};
 ghost use Rattle.page_log.specs.Batches.{Placed, AreEvents, room_of};
-ghost use Rattle.page_log.specs.Steps.{TakesWhole, StopsAt};
+ghost use Rattle.page_log.specs.Steps.{Moves, OnlyReads, StopsAt, TakesWhole, bytes_of};
+ghost use Rattle.vec_outside.specs.Causes.{HasCause};
 
-use crate::events::read_events;
+use crate::events::read_batch_events;
 use crate::limits::MOST_USED;
-use std::alloc::{AllocError, Global};
+use std::alloc::Global;
 use vec_event::{Event, event_size};
+use vec_outside::{Area, Disks, Outage};
 
 /// What was read of the batches so far: their events with their places, the place of the next seal, and what the events take of
 /// an epoch's room; and the place of a bad batch or event.
@@ -30,16 +32,31 @@ fn room_left(room: u64, events: &[(u64, Event)]) -> Option<u64>
     Some(left)
 }
 
-/// Takes in a batch with these bytes of events, and says whether it is whole and the log goes on.
-pub fn take_batch(alloc: Global, run: &mut Run, bytes: &[u8]) -> Result<bool, AllocError>
-    requires place { run.old.end + 5 + length bytes.now < 2 ^ 64 }
+/// Takes in the batch at the place where the others end, which has so many bytes of events, and says whether it is whole and the
+/// log goes on.
+pub fn take_batch<D: Disks>(
+    alloc: Global,
+    disks: &mut D,
+    area: Area,
+    len: u64,
+    run: &mut Run,
+) -> Result<bool, Outage>
+    requires place { run.old.end + 5 + len < 2 ^ 64 }
+    requires within { D.told → run.old.end + 5 + len ≤ length ((D.disk disks.old).seen area) }
+    requires some { 0 < len }
     requires used { run.old.used ≤ MOST_USED }
     requires fine { run.old.bad ≡ None }
-    ensures whole { IfOk result (λ goes_on. goes_on ≡ true → TakesWhole run.old run.new bytes.now) }
-    ensures stops { IfOk result (λ goes_on. goes_on ≡ false → StopsAt run.old run.new bytes.now) }
+    ensures whole { D.told → IfOk result (λ goes_on. goes_on ≡ true
+        → TakesWhole run.old run.new (bytes_of ((D.disk disks.old).seen area) run.old.end len)) }
+    ensures stops { D.told → IfOk result (λ goes_on. goes_on ≡ false
+        → StopsAt run.old run.new (bytes_of ((D.disk disks.old).seen area) run.old.end len)) }
+    ensures further { IfOk result (λ goes_on. goes_on ≡ true → Moves run.old run.new len) }
+    ensures stays { IfOk result (λ goes_on. goes_on ≡ false → (run.new.end ≡ run.old.end) × (run.new.used ≤ MOST_USED)) }
+    ensures only { OnlyReads (D.disk disks.old) (D.disk disks.new) }
+    ensures cause { HasCause (D.count disks.old) (D.count disks.new) result }
 {
     let before = run.events.len();
-    let bad = read_events(alloc, run.end + 5, bytes, &mut run.events)?;
+    let bad = read_batch_events(alloc, disks, area, run.end + 5, len, &mut run.events)?;
     match room_left(MOST_USED - run.used, &run.events[before..]) {
         None => {
             run.events.truncate(before);
@@ -52,7 +69,7 @@ pub fn take_batch(alloc: Global, run: &mut Run, bytes: &[u8]) -> Result<bool, Al
             if bad.is_some() {
                 return Ok(false);
             }
-            run.end += 5 + bytes.len() as u64;
+            run.end += 5 + len;
             Ok(true)
         }
     }

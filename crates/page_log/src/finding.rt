@@ -1,19 +1,20 @@
 //! Finding a batch on the disks.
 
 ghost use Rattle.std.specs.Prelude.{◌≡◌, ◌+◌, ◌<◌, ◌≤◌, ◌^◌, ℕ, List, length, take, drop, IfOk, MatchOption};
-ghost use Rattle.page_log.specs.Steps.{OnlyReads, IsFront, IsFound, IsBytes};
+ghost use Rattle.page_log.specs.Steps.{OnlyReads, IsFront, IsFound, LiesIn};
 ghost use Rattle.vec_outside.specs.Causes.{HasCause};
 
 use crate::limits::OPEN;
 use std::alloc::Global;
 use vec_outside::{Area, Disks, Outage};
 
-/// What stands at a place of a log area: no open seal, an open one with no whole batch, or a batch with these bytes of events.
-#[derive(Drop)]
+/// What stands at a place of a log area: no open seal, an open one with no whole batch, or a batch with so many bytes
+/// of events.
+#[derive(Clone, Copy)]
 pub enum Found {
     Closed,
     Bad,
-    Batch(Vec<u8>),
+    Batch(u64),
 }
 
 /// So many bytes of an area from a place on.
@@ -58,8 +59,7 @@ pub fn find_batch<D: Disks>(
 ) -> Result<Found, Outage>
     requires { D.told → size ≡ length ((D.disk disks.old).seen area) }
     ensures found { D.told → IfOk result (IsFound ((D.disk disks.old).seen area) at) }
-    ensures within { IfOk result (λ found. (bytes : List ℕ) → IsBytes found bytes → at + 5 + length bytes ≤ size) }
-    ensures some { IfOk result (λ found. (bytes : List ℕ) → IsBytes found bytes → 0 < length bytes) }
+    ensures within { IfOk result (LiesIn size at) }
     ensures only { OnlyReads (D.disk disks.old) (D.disk disks.new) }
     ensures cause { HasCause (D.count disks.old) (D.count disks.new) result }
 {
@@ -72,32 +72,19 @@ pub fn find_batch<D: Disks>(
     }
     match length_in(&front) {
         None => Ok(Found::Bad),
-        Some(len) => find_events(alloc, disks, area, at, size, len),
+        Some(len) => Ok(batch_at(at, size, len)),
     }
 }
 
-/// The batch at a place whose front tells so many bytes of events.
-fn find_events<D: Disks>(
-    alloc: Global,
-    disks: &mut D,
-    area: Area,
-    at: u64,
-    size: u64,
-    len: u64,
-) -> Result<Found, Outage>
-    requires size { D.told → size ≡ length ((D.disk disks.old).seen area) }
-    requires front { D.told → IsFront (take 5 (drop at ((D.disk disks.old).seen area))) len }
+/// What stands in an area of this size at the front of a batch that tells so many bytes of events.
+fn batch_at(at: u64, size: u64, len: u64) -> Found
     requires within { at + 5 ≤ size }
     requires some { 0 < len }
-    ensures found { D.told → IfOk result (IsFound ((D.disk disks.old).seen area) at) }
-    ensures within { IfOk result (λ found. (bytes : List ℕ) → IsBytes found bytes → at + 5 + length bytes ≤ size) }
-    ensures some { IfOk result (λ found. (bytes : List ℕ) → IsBytes found bytes → 0 < length bytes) }
-    ensures only { OnlyReads (D.disk disks.old) (D.disk disks.new) }
-    ensures cause { HasCause (D.count disks.old) (D.count disks.new) result }
+    ensures found { (area : List ℕ) → size ≡ length area → IsFront (take 5 (drop at area)) len → IsFound area at result }
+    ensures within { LiesIn size at result }
 {
     if len > size - at - 5 {
-        return Ok(Found::Bad);
+        return Found::Bad;
     }
-    let bytes = read_bytes(alloc, disks, area, at + 5, len)?;
-    Ok(Found::Batch(bytes))
+    Found::Batch(len)
 }

@@ -26,3 +26,6 @@ pub const SPARE: usize = 131_086;
 
 /// The bytes of the longest event: of 65,535 offsets of two bytes, behind seven.
 pub const LONGEST: u64 = 131_077;
+
+/// How many bytes of a batch are read at a time, unless an event is longer.
+pub const PIECE: u64 = 65_536;

@@ -38,7 +38,7 @@ fn read_batch<D: Disks>(
             run.bad = Some(run.end);
             Ok(false)
         }
-        Found::Batch(bytes) => Ok(take_batch(alloc, run, &bytes)?),
+        Found::Batch(len) => Ok(take_batch(alloc, disks, area, len, run)?),
     }
 }
 

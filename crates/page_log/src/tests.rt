@@ -1,7 +1,7 @@
 //! The worked log: an insert of one node into an empty index, as one batch.
 
 use crate::batches::Run;
-use crate::events::read_events;
+use crate::events::{Piece, read_events};
 use crate::log_reading::read_batches;
 use std::alloc::{AllocError, Global};
 use std::test::*;
@@ -15,27 +15,38 @@ const EVENTS: [u8; 60] = [
     0xFF, 0xFF, 0, 0, 0x07, 0, 0, 1, 0, 1, 0, 0,
 ];
 
-/// How many events are read of these bytes, the place of the last of them, and the place of the first bad one.
-fn told(alloc: Global, bytes: &[u8]) -> Result<(usize, u64, Option<u64>), AllocError> {
+/// How many events are read of these bytes, the place of the last of them, and how many bytes they have.
+fn told(alloc: Global, bytes: &[u8]) -> Result<(usize, u64, Piece), AllocError> {
     let mut events: Vec<(u64, Event)> = Vec::new(alloc);
-    let bad = read_events(alloc, 8_241, bytes, &mut events)?;
+    let piece = read_events(alloc, 8_241, bytes, &mut events)?;
     let last = match events.last() {
         Some((place, _)) => *place,
         None => 0,
     };
-    Ok((events.len(), last, bad))
+    Ok((events.len(), last, piece))
+}
+
+/// So many bytes of whole events, behind which no event begins, or may begin.
+fn whole(len: usize, bad: bool) -> Piece {
+    Piece { len, bad }
 }
 
 #[test]
 fn events_with_their_places(rt: HostRuntime) -> Result<(), AllocError> {
-    assert_eq!(rt; told(rt.alloc(), &EVENTS)?, (2, 8_293, None));
+    assert_eq!(rt; told(rt.alloc(), &EVENTS)?, (2, 8_293, whole(60, false)));
     // Without the last byte, and without the second event.
-    assert_eq!(rt; told(rt.alloc(), &EVENTS[..59])?, (1, 8_241, Some(8_293)));
-    assert_eq!(rt; told(rt.alloc(), &EVENTS[..52])?, (1, 8_241, None));
-    assert_eq!(rt; told(rt.alloc(), &EVENTS[..51])?, (0, 0, Some(8_241)));
-    // From the second byte on no event begins.
-    assert_eq!(rt; told(rt.alloc(), &EVENTS[1..])?, (0, 0, Some(8_241)));
-    assert_eq!(rt; told(rt.alloc(), &[])?, (0, 0, None));
+    assert_eq!(rt;
+        told(rt.alloc(), &EVENTS[..59])?,
+        (1, 8_241, whole(52, false))
+    );
+    assert_eq!(rt;
+        told(rt.alloc(), &EVENTS[..52])?,
+        (1, 8_241, whole(52, false))
+    );
+    assert_eq!(rt; told(rt.alloc(), &EVENTS[..51])?, (0, 0, whole(0, false)));
+    // From the second byte on no event begins, whatever follows.
+    assert_eq!(rt; told(rt.alloc(), &EVENTS[1..])?, (0, 0, whole(0, true)));
+    assert_eq!(rt; told(rt.alloc(), &[])?, (0, 0, whole(0, false)));
     Ok(())
 }
 
