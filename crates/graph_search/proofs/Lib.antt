@@ -10,3 +10,4 @@ pub mod RowsRead
 pub mod Presence
 pub mod Holding
 pub mod WorkedBatches
+pub mod WorkedThird

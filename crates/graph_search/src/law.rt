@@ -31,6 +31,8 @@ ghost use Rattle.graph_search.specs.Scan.{Relaxed, Strict, GoesOn, is_less};
 ghost use Rattle.graph_search.specs.Batches.{first, second, third, list_place, row_1, row_2, row_3, told_as, given_of, look_again};
 ghost use Rattle.graph_search.specs.Batches.{first_reads, after_first, second_reads, after_second, after_third, before_reuse, after_reuse};
 ghost use Rattle.graph_search.specs.Reads.{AtList, Gone};
+ghost use Rattle.graph_search.specs.Insert.{LinksBack};
+ghost use Rattle.graph_search.specs.ThirdInsert.{third_node, third_reads, third_lists, third_target, third_links};
 
 /// A law, and no work. The search of one layer gives at most ef elements, each of which was live as it was read, and none
 /// of which comes after one that is farther: they rise by distance, and then by place. Each
@@ -185,4 +187,12 @@ pub fn law_worked_batches()
 pub fn law_worked_reuse()
     ensures { (mode : Mode) → GoesOn mode → NextBatch 1 20000 mode before_reuse
         ((AtList second list_place 0 1 0, Gone) ∷ look_again second Gone ∷ []) [] false after_reuse }
+{}
+
+/// A law, and no work. A worked example: 0111 comes to 1/5 as the third row of an index with m 2 and ef 4, where 0000 at 1/1 and 0011
+/// at 1/3 name each other. Its slots name 1/3 and then 1/1, which is nearer to 1/3 than to the newcomer and fills up. Then 1/3 and
+/// 1/1 are looked at, each with its member, and each names the newcomer in its first empty slot.
+pub fn law_worked_third_insert()
+    ensures lists { InsertLists third_node third_reads (Some 0) third_lists }
+    ensures links { LinksBack third_target third_lists.picks third_links }
 {}
