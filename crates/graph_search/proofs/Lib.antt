@@ -11,3 +11,5 @@ pub mod Presence
 pub mod Holding
 pub mod WorkedBatches
 pub mod WorkedThird
+pub mod Merging
+pub mod Onward

@@ -190,7 +190,7 @@ or_true : (b : Bool) → (b || true) ≡ true
 or_true true = refl
 or_true false = refl
 
-among_self : (es : List Found) (i : ℕ) (e : Found) → slice_get es i ≡ Some e → is_known_at es e.at ≡ true
+pub among_self : (es : List Found) (i : ℕ) (e : Found) → slice_get es i ≡ Some e → is_known_at es e.at ≡ true
 among_self [] i e is = absurd (none-some e is)
 among_self (f ∷ es) zero e is =
     let same : f ≡ e = same_Some f e is in

@@ -1,6 +1,6 @@
 -- A scan in batches: the HNSW paper's Algorithm 5, and after pgvector's iterative scans its going on for more. How a
 -- batch goes on, reads anew what it met before, and ends, is this project's own rule.
-use Rattle.std.specs.Prelude.{◌≡◌, ◌≤◌, ◌||◌, ℕ, ⊤, if◌then◌else◌, Bool, true, false, List, [], ◌∷◌, ◌++◌, map, filter, flat_map, take, length, slice_get, Option, Some, None}
+use Rattle.std.specs.Prelude.{◌≡◌, ◌≤◌, ◌||◌, not, ℕ, ⊤, if◌then◌else◌, Bool, true, false, List, [], ◌∷◌, ◌++◌, map, filter, flat_map, take, length, slice_get, Option, Some, None}
 use Rattle.std.specs.Ordering.{is_lt}
 use Rattle.vec_names.specs.declared.tid.Tid.{Tid}
 use Rattle.vec_names.specs.declared.heap_id.HeapId.{HeapId}
@@ -180,6 +180,15 @@ begins_with s = record {
 -- whether a search that holds this is over
 abbrev pub is_over : ℕ → Option ℕ → Held → Bool
 is_over ef most h = is_done ef (map (λ p. p.0) h.found) h.unexpanded || is_most most h.count
+
+-- what it holds once a batch has taken the first ef of those found: these are found no more, and all that is known was known earlier
+abbrev pub after_batch : ℕ → Held → Held
+after_batch ef h = record {
+  is_named = h.is_named;
+  unexpanded = h.unexpanded;
+  found = map (λ p. (p.0, true)) (filter (λ p. not (is_among (map (λ q. place_of q.0) (take ef h.found)) p.0.at)) h.found);
+  count = h.count;
+}
 
 -- A search goes on from what it holds: so many turns more, up to where it halts, with their reads. Whatever course it is after.
 pub record GoesOnTo (s : Start) (ef : ℕ) (most : Option ℕ) (turns : List Turn) (taken : List Tid) (reads : List (Look × Answer))

@@ -1,12 +1,12 @@
 //! What the definition of a search means: laws, and no work.
 
-ghost use Rattle.std.specs.Prelude.{◌≡◌, ◌↔◌, ◌<◌, ◌≤◌, ℕ, Bool, true, false, List, [], ◌∷◌, ◌++◌, length, slice_get, Option, Some, None};
+ghost use Rattle.std.specs.Prelude.{◌≡◌, ◌↔◌, ◌<◌, ◌≤◌, ℕ, Bool, true, false, List, [], ◌∷◌, ◌++◌, length, map, take, slice_get, Option, Some, None};
 ghost use Rattle.neighbour_pick.specs.declared.found.Found.{Found as Elements};
 ghost use Rattle.vec_names.specs.declared.tid.Tid.{Tid};
 ghost use Rattle.vec_names.specs.declared.params.Ops.{Ops};
 ghost use Rattle.graph_search.specs.Reads.{Look, Answer, AreReadAt};
 ghost use Rattle.graph_search.specs.Scan.{Given, Mode, Standing, FirstBatch, NextBatch, IsTold};
-ghost use Rattle.graph_search.specs.Scan.{IsRowRead, IsPresent, Held, HoldsAfter, is_over, GoesOnTo, begins_with};
+ghost use Rattle.graph_search.specs.Scan.{IsRowRead, IsPresent, Held, HoldsAfter, after_batch, is_over, GoesOnTo, begins_with};
 ghost use Rattle.vec_names.specs.declared.params.Params.{Params as Parameters};
 ghost use Rattle.vec_names.specs.declared.heap_id.HeapId.{HeapId};
 ghost use Rattle.vec_history.specs.declared.event.Event.TheVariants.{Join};
@@ -21,7 +21,7 @@ ghost use Rattle.graph_search.specs.Deeds.{Deed, looks_of, events_of, rows_made,
 ghost use Rattle.graph_search.specs.Insert.{Newcomer, InsertLists, may_join, Outcome, Joined, Put, WholeInsert, PutsWhatItFound};
 ghost use Rattle.std.specs.declared.cmp.Ordering.TheVariants.{Less};
 ghost use Rattle.vec_names.specs.Order.{tid_cmp};
-ghost use Rattle.graph_search.specs.Search.{Start, Bounds, Turn, is_halted, LayerSearch, IsMet, AreExact, is_live, is_before, course_reads};
+ghost use Rattle.graph_search.specs.Search.{Start, Bounds, Turn, is_halted, LayerSearch, IsMet, AreExact, is_live, is_before, course_reads, known, place_of};
 ghost use Rattle.graph_search.specs.Examples.{Stand, zeros, last_two, last_three, last_one, element_at, from_first, three_turns};
 ghost use Rattle.graph_search.specs.Examples.{one_turn, from_nearest, turns_through, no_entry_reads, gone_entry_reads, nothing_found, no_lists, first_insert, first_events};
 ghost use Rattle.bit_dist.specs.declared.dist.Dist.{Dist};
@@ -153,13 +153,16 @@ pub fn law_batches()
         → IsPresent base acts ops query e }
 {}
 
-/// A law, and no work. A search can hold its course in what `HoldsAfter` names: where it begins that is known, and whether it
-/// is over can be told from it. A layer's search, and the search of a next batch, each go on so.
+/// A law, and no work. A search can hold its course in what `HoldsAfter` names: where it begins that is known, whether it
+/// is over can be told from it, and so can what it holds once a batch has taken the first of those found. A layer's search, and the search of a next batch, each go on so.
 pub fn law_going_on()
     ensures begins { (s : Start) → HoldsAfter s [] [] [] (begins_with s) }
     ensures over { (s : Start) (turns : List Turn) (taken : List Tid) (earlier : List Elements) (h : Held) (ef : ℕ) (most : Option ℕ)
         → HoldsAfter s turns taken earlier h
         → is_over ef most h ≡ is_halted s (record { ef = ef; taken = taken; most = most }) turns }
+    ensures taken { (s : Start) (turns : List Turn) (taken : List Tid) (earlier : List Elements) (h : Held) (ef : ℕ)
+        → HoldsAfter s turns taken earlier h
+        → HoldsAfter s turns (taken ++ map place_of (take ef (map (λ p. p.0) h.found))) (known s turns) (after_batch ef h) }
     ensures search { (s : Start) (ef : ℕ) (reads : List (Look × Answer)) (result : List Elements) (search : LayerSearch s ef reads result)
         → GoesOnTo s ef None [] [] reads search.turns }
     ensures batch { (ef most : ℕ) (mode : Mode) (old : Standing) (reads : List (Look × Answer)) (given : List Given) (end : Bool)

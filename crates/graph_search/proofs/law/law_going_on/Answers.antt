@@ -1,3 +1,4 @@
+use Rattle.graph_search.proofs.Onward.{batch_taken}
 use Rattle.graph_search.proofs.Holding.{over, begins, batch_goes_on, search_goes_on}
 use Rattle.graph_search.proofs.law.law_going_on.Goals as goal
 
@@ -12,3 +13,6 @@ returns-clause-search c = search_goes_on
 
 pub returns-clause-batch : goal.returns-clause-batch
 returns-clause-batch c = batch_goes_on
+
+pub returns-clause-taken : goal.returns-clause-taken
+returns-clause-taken c = λ s turns taken earlier h ef holds. batch_taken s turns taken earlier h holds ef
