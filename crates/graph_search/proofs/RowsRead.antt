@@ -204,7 +204,7 @@ learned_both s (t ∷ xs) ys =
     ap (λ (z : List Found). elements_of s.ops s.query t.nodes ++ z) (learned_both s xs ys)
     ∙ sym (append_assoc (elements_of s.ops s.query t.nodes) (learned s xs) (learned s ys))
 
-known_both : (s : Start) (xs ys : List Turn) → known s (xs ++ ys) ≡ known s xs ++ learned s ys
+pub known_both : (s : Start) (xs ys : List Turn) → known s (xs ++ ys) ≡ known s xs ++ learned s ys
 known_both s xs ys = ap (λ (z : List Found). s.from ++ z) (learned_both s xs ys) ∙ sym (append_assoc s.from (learned s xs) (learned s ys))
 
 not_nearer_all : (Q : Given → Type 0) (last : Option Dist) (gs : List Given) → All_of Q gs → All_of Q (without_nearer last gs)

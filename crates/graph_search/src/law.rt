@@ -6,7 +6,7 @@ ghost use Rattle.vec_names.specs.declared.tid.Tid.{Tid};
 ghost use Rattle.vec_names.specs.declared.params.Ops.{Ops};
 ghost use Rattle.graph_search.specs.Reads.{Look, Answer, AreReadAt};
 ghost use Rattle.graph_search.specs.Scan.{Given, Mode, Standing, FirstBatch, NextBatch, IsTold};
-ghost use Rattle.graph_search.specs.Scan.{IsRowRead, IsPresent, Held, HoldsAfter, after_batch, is_over, GoesOnTo, begins_with};
+ghost use Rattle.graph_search.specs.Scan.{IsRowRead, IsPresent, Held, HoldsAfter, after_batch, after_turn, AreNamed, is_over, GoesOnTo, begins_with};
 ghost use Rattle.vec_names.specs.declared.params.Params.{Params as Parameters};
 ghost use Rattle.vec_names.specs.declared.heap_id.HeapId.{HeapId};
 ghost use Rattle.vec_history.specs.declared.event.Event.TheVariants.{Join};
@@ -21,7 +21,7 @@ ghost use Rattle.graph_search.specs.Deeds.{Deed, looks_of, events_of, rows_made,
 ghost use Rattle.graph_search.specs.Insert.{Newcomer, InsertLists, may_join, Outcome, Joined, Put, WholeInsert, PutsWhatItFound};
 ghost use Rattle.std.specs.declared.cmp.Ordering.TheVariants.{Less};
 ghost use Rattle.vec_names.specs.Order.{tid_cmp};
-ghost use Rattle.graph_search.specs.Search.{Start, Bounds, Turn, is_halted, LayerSearch, IsMet, AreExact, is_live, is_before, course_reads, known, place_of};
+ghost use Rattle.graph_search.specs.Search.{Start, Bounds, Turn, IsTurn, is_halted, LayerSearch, IsMet, AreExact, is_live, is_before, course_reads, known, place_of};
 ghost use Rattle.graph_search.specs.Examples.{Stand, zeros, last_two, last_three, last_one, element_at, from_first, three_turns};
 ghost use Rattle.graph_search.specs.Examples.{one_turn, from_nearest, turns_through, no_entry_reads, gone_entry_reads, nothing_found, no_lists, first_insert, first_events};
 ghost use Rattle.bit_dist.specs.declared.dist.Dist.{Dist};
@@ -154,7 +154,7 @@ pub fn law_batches()
 {}
 
 /// A law, and no work. A search can hold its course in what `HoldsAfter` names: where it begins that is known, whether it
-/// is over can be told from it, and so can what it holds once a batch has taken the first of those found. A layer's search, and the search of a next batch, each go on so.
+/// is over can be told from it, and so can what it holds once a batch has taken the first of those found, and after one turn more. A layer's search, and the search of a next batch, each go on so.
 pub fn law_going_on()
     ensures begins { (s : Start) → HoldsAfter s [] [] [] (begins_with s) }
     ensures over { (s : Start) (turns : List Turn) (taken : List Tid) (earlier : List Elements) (h : Held) (ef : ℕ) (most : Option ℕ)
@@ -163,6 +163,15 @@ pub fn law_going_on()
     ensures taken { (s : Start) (turns : List Turn) (taken : List Tid) (earlier : List Elements) (h : Held) (ef : ℕ)
         → HoldsAfter s turns taken earlier h
         → HoldsAfter s turns (taken ++ map place_of (take ef (map (λ p. p.0) h.found))) (known s turns) (after_batch ef h) }
+    ensures turn { (s : Start) (b : Bounds) (turns : List Turn) (t : Turn) (taken : List Tid) (earlier : List Elements) (h : Held)
+        → HoldsAfter s turns taken earlier h → AreNamed s turns taken earlier → IsTurn s b turns t
+        → HoldsAfter s (turns ++ t ∷ []) taken earlier (after_turn s t h) }
+    ensures named_begins { (s : Start) → AreNamed s [] [] [] }
+    ensures named_taken { (s : Start) (turns : List Turn) (taken : List Tid) (earlier : List Elements) (h : Held) (ef : ℕ)
+        → HoldsAfter s turns taken earlier h → AreNamed s turns taken earlier
+        → AreNamed s turns (taken ++ map place_of (take ef (map (λ p. p.0) h.found))) (known s turns) }
+    ensures named_turn { (s : Start) (b : Bounds) (turns : List Turn) (t : Turn) (taken : List Tid) (earlier : List Elements)
+        → AreNamed s turns taken earlier → IsTurn s b turns t → AreNamed s (turns ++ t ∷ []) taken earlier }
     ensures search { (s : Start) (ef : ℕ) (reads : List (Look × Answer)) (result : List Elements) (search : LayerSearch s ef reads result)
         → GoesOnTo s ef None [] [] reads search.turns }
     ensures batch { (ef most : ℕ) (mode : Mode) (old : Standing) (reads : List (Look × Answer)) (given : List Given) (end : Bool)
