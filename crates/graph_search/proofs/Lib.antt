@@ -13,3 +13,4 @@ pub mod WorkedBatches
 pub mod WorkedThird
 pub mod Merging
 pub mod Onward
+pub mod SameValue

@@ -93,6 +93,7 @@ pub fn law_insert()
         → WholeInsert params id bits word (Joined e) deeds → rows_made params.m deeds ≡ Join e.at e.version id ∷ [] }
     ensures equal { (params : Parameters) (id : HeapId) (bits : List Bool) (word : ℕ) (e : Elements) (deeds : List Deed)
         → WholeInsert params id bits word (Joined e) deeds → may_join bits e ≡ true }
+    ensures same_value { (bits : List Bool) (e : Elements) → may_join bits e ≡ true → length e.bits ≡ length bits → e.bits ≡ bits }
     ensures puts { (params : Parameters) (id : HeapId) (bits : List Bool) (word : ℕ) (place : Places) (deeds : List Deed)
         → WholeInsert params id bits word (Put place) deeds → PutsWhatItFound params id bits word place deeds }
 {}
@@ -154,7 +155,8 @@ pub fn law_batches()
 {}
 
 /// A law, and no work. A search can hold its course in what `HoldsAfter` names: where it begins that is known, whether it
-/// is over can be told from it, and so can what it holds once a batch has taken the first of those found, and after one turn more. A layer's search, and the search of a next batch, each go on so.
+/// is over can be told from it, and so can what it holds once a batch has taken the first of those found, and after one
+/// turn more. A layer's search, and the search of a next batch, each go on so.
 pub fn law_going_on()
     ensures begins { (s : Start) → HoldsAfter s [] [] [] (begins_with s) }
     ensures over { (s : Start) (turns : List Turn) (taken : List Tid) (earlier : List Elements) (h : Held) (ef : ℕ) (most : Option ℕ)
