@@ -8,3 +8,5 @@ pub mod Facts
 pub mod Entering
 pub mod Nothing
 pub mod Worked
+pub mod DoomedCount
+pub mod Remains

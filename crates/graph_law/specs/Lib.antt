@@ -2,3 +2,4 @@ pub mod Reaching
 pub mod Touching
 pub mod Standing
 pub mod Examples
+pub mod Counting

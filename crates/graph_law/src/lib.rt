@@ -6,8 +6,10 @@
 //! rest on stands lower: one act as a few facts (`IsStep`), shape and what lasts in `vec_graph`, acts in `vec_history`.
 #![tactic(auto)]
 
+mod counting;
 mod law;
 
+pub use counting::{law_doomed_count, law_place_kept};
 pub use law::{law_behind_drops, law_cleaned, law_examples, law_known, law_scan, law_sound};
 
 #[cfg(test)]

@@ -43,5 +43,7 @@ fn laws_before_any_act(rt: HostRuntime) {
     law_scan(&base, &acts);
     law_behind_drops(&base, &acts);
     law_cleaned(&base, &acts);
+    law_doomed_count(&base, &acts);
+    law_place_kept(&base, &acts);
     law_examples();
 }

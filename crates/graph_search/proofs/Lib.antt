@@ -10,3 +10,7 @@ pub mod RowsRead
 pub mod Presence
 pub mod Holding
 pub mod WorkedBatches
+pub mod WorkedThird
+pub mod Merging
+pub mod Onward
+pub mod SameValue

@@ -190,7 +190,7 @@ or_true : (b : Bool) → (b || true) ≡ true
 or_true true = refl
 or_true false = refl
 
-among_self : (es : List Found) (i : ℕ) (e : Found) → slice_get es i ≡ Some e → is_known_at es e.at ≡ true
+pub among_self : (es : List Found) (i : ℕ) (e : Found) → slice_get es i ≡ Some e → is_known_at es e.at ≡ true
 among_self [] i e is = absurd (none-some e is)
 among_self (f ∷ es) zero e is =
     let same : f ≡ e = same_Some f e is in
@@ -204,7 +204,7 @@ learned_both s (t ∷ xs) ys =
     ap (λ (z : List Found). elements_of s.ops s.query t.nodes ++ z) (learned_both s xs ys)
     ∙ sym (append_assoc (elements_of s.ops s.query t.nodes) (learned s xs) (learned s ys))
 
-known_both : (s : Start) (xs ys : List Turn) → known s (xs ++ ys) ≡ known s xs ++ learned s ys
+pub known_both : (s : Start) (xs ys : List Turn) → known s (xs ++ ys) ≡ known s xs ++ learned s ys
 known_both s xs ys = ap (λ (z : List Found). s.from ++ z) (learned_both s xs ys) ∙ sym (append_assoc s.from (learned s xs) (learned s ys))
 
 not_nearer_all : (Q : Given → Type 0) (last : Option Dist) (gs : List Given) → All_of Q gs → All_of Q (without_nearer last gs)

@@ -1,5 +1,5 @@
 -- The worked batches: all of it is computed.
-use Rattle.std.proofs.Common.{◌≡◌, ℕ, Bool, true, false, cond, List, [], ◌∷◌, Option, Some, None, refl, sym, ap}
+use Rattle.std.proofs.Common.{◌≡◌, ℕ, Bool, true, false, cond, [], ◌∷◌, Option, Some, None, refl, sym, ap}
 use Rattle.bit_dist.specs.declared.dist.Dist.{Dist}
 use Rattle.bit_code.specs.Places.{tally}
 use Rattle.bit_dist.specs.Distances.{hamming_of}

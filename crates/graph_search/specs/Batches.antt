@@ -1,5 +1,5 @@
 -- Worked batches for the query 0000 with ef 1. Three nodes of level 0 stand at 1/1, 1/3 and 1/5, and 1/1 is the entry point; m is 2.
-use Rattle.std.specs.Prelude.{ℕ, Bool, true, false, List, [], ◌∷◌, map, Option, Some, None}
+use Rattle.std.specs.Prelude.{Bool, List, [], ◌∷◌, Some, None}
 use Rattle.std.proofs.Common.{lit<, lit≤}
 use Rattle.vec_names.specs.declared.tid.Tid.{Tid}
 use Rattle.vec_names.specs.declared.heap_id.HeapId.{HeapId}

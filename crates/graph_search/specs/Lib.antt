@@ -6,3 +6,4 @@ pub mod Deeds
 pub mod Insert
 pub mod Examples
 pub mod Batches
+pub mod ThirdInsert

@@ -1,8 +1,10 @@
 -- A scan in batches: the HNSW paper's Algorithm 5, and after pgvector's iterative scans its going on for more. How a
 -- batch goes on, reads anew what it met before, and ends, is this project's own rule.
-use Rattle.std.specs.Prelude.{◌≡◌, ◌≤◌, ◌||◌, ℕ, ⊤, if◌then◌else◌, Bool, true, false, List, [], ◌∷◌, ◌++◌, map, filter, flat_map, take, length, slice_get, Option, Some, None}
-use Rattle.std.specs.Ordering.{is_lt}
+use Rattle.std.specs.Prelude.{◌≡◌, ◌≤◌, ◌||◌, not, ℕ, ◌+◌, ⊤, if◌then◌else◌, Bool, true, false, List, [], ◌∷◌, ◌++◌, map, filter, flat_map, take, length, slice_get, Option, Some, None}
+use Rattle.std.specs.Ordering.{is_lt, eq_by_cmp}
 use Rattle.vec_names.specs.declared.tid.Tid.{Tid}
+use Rattle.vec_names.specs.Order.{tid_cmp}
+use Rattle.list_values.specs.Ranking.{ranked}
 use Rattle.vec_names.specs.declared.heap_id.HeapId.{HeapId}
 use Rattle.vec_names.specs.declared.params.Ops.{Ops}
 use Rattle.bit_dist.specs.declared.dist.Dist.{Dist}
@@ -14,7 +16,7 @@ use Rattle.vec_graph.specs.Graph.{node_at}
 use Rattle.vec_graph.specs.Effect.{state_after}
 use Rattle.neighbour_pick.specs.declared.found.Found.{Found}
 use Rattle.graph_search.specs.Reads.{Look, AtNode, Answer}
-use Rattle.graph_search.specs.Search.{Turn, Start, Bounds, is_among, place_of, element_of, known, named, open_in, found_in, in_order, is_live, is_done, is_most, is_halted, IsCourse, course_reads, only_ef}
+use Rattle.graph_search.specs.Search.{Turn, elements_of, named_in, is_before, Start, Bounds, is_among, place_of, element_of, known, named, open_in, found_in, in_order, is_live, is_done, is_most, is_halted, IsCourse, course_reads, only_ef}
 use Rattle.graph_search.specs.Descent.{Descent, start_at}
 
 -- a row that is answered: its id, the distance of its value, and which element gave it
@@ -180,6 +182,32 @@ begins_with s = record {
 -- whether a search that holds this is over
 abbrev pub is_over : ℕ → Option ℕ → Held → Bool
 is_over ef most h = is_done ef (map (λ p. p.0) h.found) h.unexpanded || is_most most h.count
+
+-- what it holds once a batch has taken the first ef of those found: these are found no more, and all that is known was known earlier
+abbrev pub after_batch : ℕ → Held → Held
+after_batch ef h = record {
+  is_named = h.is_named;
+  unexpanded = h.unexpanded;
+  found = map (λ p. (p.0, true)) (filter (λ p. not (is_among (map (λ q. place_of q.0) (take ef h.found)) p.0.at)) h.found);
+  count = h.count;
+}
+
+-- the places of the elements that a search knows, has expanded or taken, or knew at an earlier batch, are among those that were named
+pub record AreNamed (s : Start) (turns : List Turn) (taken : List Tid) (earlier : List Found) : Type 0 where
+  pub known_are : (at : Tid) → is_known_at (known s turns) at ≡ true → is_among (named s turns) at ≡ true
+  pub expanded_are : (at : Tid) → is_among (map (λ t. t.element.at) turns) at ≡ true → is_among (named s turns) at ≡ true
+  pub taken_are : (at : Tid) → is_among taken at ≡ true → is_among (named s turns) at ≡ true
+  pub earlier_are : (at : Tid) → is_known_at earlier at ≡ true → is_among (named s turns) at ≡ true
+
+-- What it holds after one turn more: the turn's element waits no more, the elements that its looks told do, and of these the live
+-- ones are found, none of which an earlier batch knew.
+abbrev pub after_turn : Start → Turn → Held → Held
+after_turn s t h = record {
+  is_named = λ at. h.is_named at || is_among (named_in t.list) at;
+  unexpanded = in_order (filter (λ e. not (eq_by_cmp tid_cmp e.at t.element.at)) h.unexpanded ++ elements_of s.ops s.query t.nodes);
+  found = ranked (λ p q. is_before p.0 q.0) (h.found ++ map (λ e. (e, false)) (filter is_live (elements_of s.ops s.query t.nodes)));
+  count = h.count + length (elements_of s.ops s.query t.nodes);
+}
 
 -- A search goes on from what it holds: so many turns more, up to where it halts, with their reads. Whatever course it is after.
 pub record GoesOnTo (s : Start) (ef : ℕ) (most : Option ℕ) (turns : List Turn) (taken : List Tid) (reads : List (Look × Answer))

@@ -1,12 +1,12 @@
 //! What the definition of a search means: laws, and no work.
 
-ghost use Rattle.std.specs.Prelude.{◌≡◌, ◌↔◌, ◌<◌, ◌≤◌, ℕ, Bool, true, false, List, [], ◌∷◌, ◌++◌, length, slice_get, Option, Some, None};
+ghost use Rattle.std.specs.Prelude.{◌≡◌, ◌↔◌, ◌<◌, ◌≤◌, ℕ, Bool, true, false, List, [], ◌∷◌, ◌++◌, length, map, take, slice_get, Option, Some, None};
 ghost use Rattle.neighbour_pick.specs.declared.found.Found.{Found as Elements};
 ghost use Rattle.vec_names.specs.declared.tid.Tid.{Tid};
 ghost use Rattle.vec_names.specs.declared.params.Ops.{Ops};
 ghost use Rattle.graph_search.specs.Reads.{Look, Answer, AreReadAt};
 ghost use Rattle.graph_search.specs.Scan.{Given, Mode, Standing, FirstBatch, NextBatch, IsTold};
-ghost use Rattle.graph_search.specs.Scan.{IsRowRead, IsPresent, Held, HoldsAfter, is_over, GoesOnTo, begins_with};
+ghost use Rattle.graph_search.specs.Scan.{IsRowRead, IsPresent, Held, HoldsAfter, after_batch, after_turn, AreNamed, is_over, GoesOnTo, begins_with};
 ghost use Rattle.vec_names.specs.declared.params.Params.{Params as Parameters};
 ghost use Rattle.vec_names.specs.declared.heap_id.HeapId.{HeapId};
 ghost use Rattle.vec_history.specs.declared.event.Event.TheVariants.{Join};
@@ -21,7 +21,7 @@ ghost use Rattle.graph_search.specs.Deeds.{Deed, looks_of, events_of, rows_made,
 ghost use Rattle.graph_search.specs.Insert.{Newcomer, InsertLists, may_join, Outcome, Joined, Put, WholeInsert, PutsWhatItFound};
 ghost use Rattle.std.specs.declared.cmp.Ordering.TheVariants.{Less};
 ghost use Rattle.vec_names.specs.Order.{tid_cmp};
-ghost use Rattle.graph_search.specs.Search.{Start, Bounds, Turn, is_halted, LayerSearch, IsMet, AreExact, is_live, is_before, course_reads};
+ghost use Rattle.graph_search.specs.Search.{Start, Bounds, Turn, IsTurn, is_halted, LayerSearch, IsMet, AreExact, is_live, is_before, course_reads, known, place_of};
 ghost use Rattle.graph_search.specs.Examples.{Stand, zeros, last_two, last_three, last_one, element_at, from_first, three_turns};
 ghost use Rattle.graph_search.specs.Examples.{one_turn, from_nearest, turns_through, no_entry_reads, gone_entry_reads, nothing_found, no_lists, first_insert, first_events};
 ghost use Rattle.bit_dist.specs.declared.dist.Dist.{Dist};
@@ -31,6 +31,8 @@ ghost use Rattle.graph_search.specs.Scan.{Relaxed, Strict, GoesOn, is_less};
 ghost use Rattle.graph_search.specs.Batches.{first, second, third, list_place, row_1, row_2, row_3, told_as, given_of, look_again};
 ghost use Rattle.graph_search.specs.Batches.{first_reads, after_first, second_reads, after_second, after_third, before_reuse, after_reuse};
 ghost use Rattle.graph_search.specs.Reads.{AtList, Gone};
+ghost use Rattle.graph_search.specs.Insert.{LinksBack};
+ghost use Rattle.graph_search.specs.ThirdInsert.{third_node, third_reads, third_lists, third_target, third_links};
 
 /// A law, and no work. The search of one layer gives at most ef elements, each of which was live as it was read, and none
 /// of which comes after one that is farther: they rise by distance, and then by place. Each
@@ -91,6 +93,7 @@ pub fn law_insert()
         → WholeInsert params id bits word (Joined e) deeds → rows_made params.m deeds ≡ Join e.at e.version id ∷ [] }
     ensures equal { (params : Parameters) (id : HeapId) (bits : List Bool) (word : ℕ) (e : Elements) (deeds : List Deed)
         → WholeInsert params id bits word (Joined e) deeds → may_join bits e ≡ true }
+    ensures same_value { (bits : List Bool) (e : Elements) → may_join bits e ≡ true → length e.bits ≡ length bits → e.bits ≡ bits }
     ensures puts { (params : Parameters) (id : HeapId) (bits : List Bool) (word : ℕ) (place : Places) (deeds : List Deed)
         → WholeInsert params id bits word (Put place) deeds → PutsWhatItFound params id bits word place deeds }
 {}
@@ -151,13 +154,26 @@ pub fn law_batches()
         → IsPresent base acts ops query e }
 {}
 
-/// A law, and no work. A search can hold its course in what `HoldsAfter` names: where it begins that is known, and whether it
-/// is over can be told from it. A layer's search, and the search of a next batch, each go on so.
+/// A law, and no work. A search can hold its course in what `HoldsAfter` names: where it begins that is known, whether it
+/// is over can be told from it, and so can what it holds once a batch has taken the first of those found, and after one
+/// turn more. A layer's search, and the search of a next batch, each go on so.
 pub fn law_going_on()
     ensures begins { (s : Start) → HoldsAfter s [] [] [] (begins_with s) }
     ensures over { (s : Start) (turns : List Turn) (taken : List Tid) (earlier : List Elements) (h : Held) (ef : ℕ) (most : Option ℕ)
         → HoldsAfter s turns taken earlier h
         → is_over ef most h ≡ is_halted s (record { ef = ef; taken = taken; most = most }) turns }
+    ensures taken { (s : Start) (turns : List Turn) (taken : List Tid) (earlier : List Elements) (h : Held) (ef : ℕ)
+        → HoldsAfter s turns taken earlier h
+        → HoldsAfter s turns (taken ++ map place_of (take ef (map (λ p. p.0) h.found))) (known s turns) (after_batch ef h) }
+    ensures turn { (s : Start) (b : Bounds) (turns : List Turn) (t : Turn) (taken : List Tid) (earlier : List Elements) (h : Held)
+        → HoldsAfter s turns taken earlier h → AreNamed s turns taken earlier → IsTurn s b turns t
+        → HoldsAfter s (turns ++ t ∷ []) taken earlier (after_turn s t h) }
+    ensures named_begins { (s : Start) → AreNamed s [] [] [] }
+    ensures named_taken { (s : Start) (turns : List Turn) (taken : List Tid) (earlier : List Elements) (h : Held) (ef : ℕ)
+        → HoldsAfter s turns taken earlier h → AreNamed s turns taken earlier
+        → AreNamed s turns (taken ++ map place_of (take ef (map (λ p. p.0) h.found))) (known s turns) }
+    ensures named_turn { (s : Start) (b : Bounds) (turns : List Turn) (t : Turn) (taken : List Tid) (earlier : List Elements)
+        → AreNamed s turns taken earlier → IsTurn s b turns t → AreNamed s (turns ++ t ∷ []) taken earlier }
     ensures search { (s : Start) (ef : ℕ) (reads : List (Look × Answer)) (result : List Elements) (search : LayerSearch s ef reads result)
         → GoesOnTo s ef None [] [] reads search.turns }
     ensures batch { (ef most : ℕ) (mode : Mode) (old : Standing) (reads : List (Look × Answer)) (given : List Given) (end : Bool)
@@ -185,4 +201,12 @@ pub fn law_worked_batches()
 pub fn law_worked_reuse()
     ensures { (mode : Mode) → GoesOn mode → NextBatch 1 20000 mode before_reuse
         ((AtList second list_place 0 1 0, Gone) ∷ look_again second Gone ∷ []) [] false after_reuse }
+{}
+
+/// A law, and no work. A worked example: 0111 comes to 1/5 as the third row of an index with m 2 and ef 4, where 0000 at 1/1 and 0011
+/// at 1/3 name each other. Its slots name 1/3 and then 1/1, which is nearer to 1/3 than to the newcomer and fills up. Then 1/3 and
+/// 1/1 are looked at, each with its member, and each names the newcomer in its first empty slot.
+pub fn law_worked_third_insert()
+    ensures lists { InsertLists third_node third_reads (Some 0) third_lists }
+    ensures links { LinksBack third_target third_lists.picks third_links }
 {}

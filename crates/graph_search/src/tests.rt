@@ -16,4 +16,5 @@ fn laws_of_searches() {
     law_worked_search();
     law_worked_search_of_one();
     law_worked_search_through();
+    law_worked_third_insert();
 }

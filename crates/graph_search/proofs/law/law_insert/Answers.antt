@@ -1,3 +1,4 @@
+use Rattle.graph_search.proofs.SameValue.{same_value}
 use Rattle.graph_search.proofs.Inserting.{joins_one, joins_equal, puts_found}
 use Rattle.graph_search.proofs.law.law_insert.Goals as goal
 
@@ -9,3 +10,6 @@ returns-clause-equal c params id bits word e deeds = joins_equal params id bits 
 
 pub returns-clause-puts : goal.returns-clause-puts
 returns-clause-puts c params id bits word place deeds = puts_found params id bits word deeds place
+
+pub returns-clause-same_value : goal.returns-clause-same_value
+returns-clause-same_value c = same_value
