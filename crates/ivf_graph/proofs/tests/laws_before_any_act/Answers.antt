@@ -12,3 +12,6 @@ law_still-requires-clause-own c = none_own _ c.new.ensures
 
 pub law_stands-requires-clause-own : goal.law_stands-requires-clause-own
 law_stands-requires-clause-own c = none_own _ c.new.ensures
+
+pub law_answered_once-requires-clause-own : goal.law_answered_once-requires-clause-own
+law_answered_once-requires-clause-own c = none_own _ c.new.ensures
