@@ -19,7 +19,8 @@ abbrev pub are_next : ℕ → ℕ → ℕ → Bool
 are_next count a b = (nat_le a count && nat_le b count) || ((a == count && b == a + 1) || (b == count && a == b + 1))
 
 abbrev pub are_new : List Content → Tid → Tid → Bool
-are_new pages at list_at = is_nothing (item_in pages at) && (is_nothing (item_in pages list_at) && are_next (length pages) at.block list_at.block)
+are_new pages at list_at =
+    is_nothing (item_in pages at) && (is_nothing (item_in pages list_at) && are_next (length pages) at.block list_at.block)
 
 abbrev pub may_put : Params → List Content → Tid → Tid → Bool
 may_put p pages at list_at = names_list list_at (head_in p pages at) || are_new pages at list_at

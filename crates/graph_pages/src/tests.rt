@@ -7,7 +7,7 @@ use crate::{
     law_put_again, law_put_again_fits, law_put_fresh_fits, law_put_new, law_put_new_fits, law_redo,
     law_relist, law_relist_fits, law_reuse, law_room, law_standing,
 };
-use bit_code::read_bits;
+use bit_code::{Bits, read_bits};
 use page_bytes::{Page, PageKind};
 use page_redo::redo;
 use std::alloc::Global;
@@ -44,6 +44,22 @@ const SLOTS: [u8; 28] = [
 const META: [u8; 32] = [
     0x56, 0x54, 0x49, 0x42, 2, 0, 1, 1, 4, 0, 0, 0, 2, 0, 4, 0, 0, 0, 0, 0, 255, 255, 255, 255, 0,
     0, 0, 0, 1, 0, 0, 0,
+];
+
+/// A graph of 64,000 places with m 16.
+const WIDE: Params = Params {
+    kind: Kind::Hnsw,
+    ops: Ops::Hamming,
+    bits: 64000,
+    m: 16,
+    ef: 64,
+    lists: 0,
+};
+
+/// The meta tuple of that graph, in the same way.
+const WIDE_META: [u8; 32] = [
+    0x56, 0x54, 0x49, 0x42, 2, 0, 1, 1, 0, 0xFA, 0, 0, 16, 0, 64, 0, 0, 0, 0, 0, 255, 255, 255,
+    255, 0, 0, 0, 0, 1, 0, 0, 0,
 ];
 
 fn place(off: u16) -> Tid {
@@ -84,11 +100,17 @@ fn put(alloc: Global, list_at: Tid) -> Result<Event, Fail> {
 
 /// Whether the event is redone on the page of a block of that graph.
 fn is_redone(event: &Event, block: u32, page: &mut Page) -> bool {
-    if !GRAPH.check() {
+    is_redone_in(&GRAPH, event, block, page)
+}
+
+/// The same of any graph.
+fn is_redone_in(params: &Params, event: &Event, block: u32, page: &mut Page) -> bool {
+    if !params.check() {
         return false;
     }
-    redo(event, &GRAPH, 255, 7, block, page).is_ok()
+    redo(event, params, 255, 7, block, page).is_ok()
 }
+
 /// The parts of a small index: the meta tuple with the entry 1/1, the element 1/1 with its list 1/2, and the element 2/1
 /// with its list 1/3, whose first slot names 2/1.
 #[derive(Clone, Copy)]
@@ -273,6 +295,45 @@ fn a_node_over_two_pages(rt: HostRuntime) -> Result<(), Fail> {
     };
     assert!(rt; node.deleted && node.version == 2 && node.ids.is_empty());
     assert!(rt; node.slots.as_slice() == [None, None, None, None].as_slice());
+    Ok(())
+}
+
+/// An element of 64,000 places leaves no room for its list, which stands on the next page: put, and then marked.
+#[test]
+fn the_longest_node_over_two_pages(rt: HostRuntime) -> Result<(), Fail> {
+    let alloc = rt.alloc();
+    let mut meta = Page::fresh(PageKind::Meta);
+    meta.add_item(&WIDE_META);
+    let mut pages = [
+        meta,
+        Page::fresh(PageKind::Hnsw),
+        Page::fresh(PageKind::Hnsw),
+    ];
+    let list_at = Tid { block: 2, off: 1 };
+    let new = Event::Put {
+        at: place(1),
+        list_at,
+        version: 1,
+        level: 0,
+        id: row(1),
+        bits: Bits::zeros(alloc, 64000)?,
+        lists: slots(alloc, 32)?,
+    };
+    assert!(rt; is_redone_in(&WIDE, &new, 1, &mut pages[1]));
+    assert!(rt; is_redone_in(&WIDE, &new, 2, &mut pages[2]));
+    let mark = Event::Mark {
+        at: place(1),
+        list_at,
+        version: 1,
+    };
+    assert!(rt; is_redone_in(&WIDE, &mark, 1, &mut pages[1]));
+    assert!(rt; is_redone_in(&WIDE, &mark, 2, &mut pages[2]));
+    let graph = graph_of(alloc, &pages)?;
+    let Some(node) = graph.nodes.get(place(1)) else {
+        panic!(rt; "no node stands at 1/1")
+    };
+    assert!(rt; graph.blocks == 3 && node.deleted && node.version == 2);
+    assert!(rt; node.bits.count() == 64000 && node.slots.len() == 32);
     Ok(())
 }
 

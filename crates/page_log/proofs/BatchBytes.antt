@@ -1,11 +1,10 @@
 -- The bytes of a batch behind its seal.
-use Rattle.std.proofs.Common.{◌≡◌, ℕ, ◌+◌, ◌-◌, ◌<◌, ◌≤◌, ◌^◌, List, [], ◌∷◌, ◌++◌, length, take, drop, refl, sym, ap, ◌∙◌, subst, arith, append_assoc, length-append, length-drop}
-use Rattle.std.specs.Int.{w32, to_le_bytes}
+use Rattle.std.proofs.Common.{◌≡◌, ℕ, ◌+◌, ◌-◌, ◌<◌, List, [], ◌∷◌, ◌++◌, length, take, refl, sym, ap, ◌∙◌, arith}
 use Rattle.std.specs.List.{AllByRecursion}
-use Rattle.std.proofs.lemmas.List.{take_at, drop_at, drop-append-le}
+use Rattle.std.proofs.lemmas.List.{take_at}
 use Rattle.vec_event.specs.Spelling.{RisesFrom}
 use Rattle.page_log.specs.Going.{body_of, payload}
-use Rattle.page_log.proofs.Holding.{body_some, body_length}
+use Rattle.page_log.proofs.Holding.{body_length}
 
 -- offsets that rise below 2^16 are fewer than that
 pub rises_few : (low : ℕ) (xs : List ℕ) → RisesFrom low xs → AllByRecursion (λ x. x < 65536) xs → low < 65536 → low + length xs < 65536

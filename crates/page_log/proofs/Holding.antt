@@ -1,13 +1,13 @@
 -- What an area holds whose log goes on, behind a closed seal and behind one that may be open.
-use Rattle.std.proofs.Common.{◌≡◌, ◌≢◌, inl, inr, Bool, true, false, ℕ, ◌+◌, ◌<◌, ◌≤◌, ◌^◌, List, [], ◌∷◌, ◌++◌, Option, None, length, get_or, take, drop, map, refl, sym, ◌∙◌, ap, subst, arith, append_assoc, append-nil, length-append}
+use Rattle.std.proofs.Common.{◌≡◌, ◌≢◌, inl, inr, Bool, true, false, ℕ, ◌+◌, ◌<◌, ◌≤◌, List, [], ◌∷◌, ◌++◌, None, length, get_or, take, map, refl, sym, ◌∙◌, ap, subst, arith, append_assoc, append-nil, length-append}
 use Rattle.std.specs.Int.{w32, to_le_bytes}
 use Rattle.std.specs.List.{flat_map}
 use Rattle.std.proofs.lemmas.Bool.{cases_eq}
 use Rattle.std.proofs.lemmas.Grind.{flat_map-append}
 use Rattle.std.proofs.lemmas.List.{take_at, drop_at, map-append}
 use Rattle.vec_history.specs.declared.event.Event.{Event}
-use Rattle.page_log.specs.Batches.{Placed, Tail, AreBatches, IsBatch, IsOpenAt, IsLog, room_of}
-use Rattle.page_log.specs.Going.{AreWritable, spelled, room, body_of, Holds, LeadsTo, IsBehind, IsSealed, IsBetween}
+use Rattle.page_log.specs.Batches.{Placed, AreBatches, IsBatch, IsOpenAt, room_of}
+use Rattle.page_log.specs.Going.{AreWritable, spelled, room, body_of, Holds, LeadsTo, IsSealed, IsBetween}
 use Rattle.page_log.proofs.SpelledEvents.{placed_from, are_events, events_placed, room_placed, spelled_within}
 
 -- an open seal and the length of a batch

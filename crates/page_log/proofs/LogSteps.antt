@@ -1,11 +1,11 @@
 -- A batch that is taken out of a log, and what stands of both once it is settled.
-use Rattle.std.proofs.Common.{◌≡◌, Bool, true, false, ℕ, zero, suc, ◌+◌, ◌<◌, ◌≤◌, List, [], ◌∷◌, ◌++◌, None, length, take, refl, sym, ◌∙◌, ap, subst, arith, append-nil, append_assoc, length-append}
+use Rattle.std.proofs.Common.{◌≡◌, Bool, true, false, ℕ, zero, suc, ◌+◌, ◌≤◌, List, [], ◌∷◌, ◌++◌, length, take, refl, sym, ◌∙◌, ap, subst, arith, append-nil, append_assoc, length-append}
 use Rattle.vec_history.specs.declared.event.Event.{Event}
 use Rattle.vec_event.specs.Spelling.{spelling, IsTyped, IsWritable}
 use Rattle.vec_outside.specs.Disk.{Disk, Image, IsImage}
 use Rattle.vec_outside.proofs.Moments.{started}
-use Rattle.page_log.specs.Going.{AreWritable, spelled, room, body_of, payload, Holds, IsBetween, IsSealed, Newer, Unsettled, IsGoing, GoesOn, ComesFrom}
-use Rattle.page_log.specs.Parts.{out, past, behind, newer_of, with_back, unsettled, with_event, taken_if, taken, IsOut, IsSameBatch}
+use Rattle.page_log.specs.Going.{spelled, body_of, payload, Holds, IsBetween, IsSealed, Unsettled, IsGoing, ComesFrom}
+use Rattle.page_log.specs.Parts.{past, behind, newer_of, with_back, unsettled, with_event, taken_if, taken, IsOut, IsSameBatch}
 use Rattle.page_log.specs.declared.log.Log.{Log}
 use Rattle.page_log.specs.declared.pending.Pending.{Pending}
 use Rattle.page_log.proofs.Fronts.{read_none}

@@ -1,10 +1,9 @@
 -- A log that was read goes on from where it ends.
-use Rattle.std.proofs.Common.{◌≡◌, ◌≢◌, ℕ, ◌+◌, ◌-◌, ◌<◌, ◌≤◌, List, [], ◌∷◌, ◌++◌, None, length, get_or, take, drop, map, false, refl, sym, ap, ◌∙◌, subst, arith, append_assoc, append-nil, take-append-drop, length-append}
+use Rattle.std.proofs.Common.{◌≡◌, ℕ, ◌+◌, ◌-◌, ◌<◌, ◌≤◌, List, [], ◌∷◌, ◌++◌, None, length, get_or, take, drop, map, false, refl, sym, ap, ◌∙◌, subst, arith, append_assoc, append-nil, take-append-drop}
 use Rattle.std.specs.Int.{w32, to_le_bytes}
 use Rattle.std.specs.List.{flat_map}
 use Rattle.std.proofs.Math.Seq.{take-append-add}
 use Rattle.std.proofs.lemmas.List.{drop-take, drop-append-le, take-append-le, length-take-le, drop_more}
-use Rattle.vec_history.specs.declared.event.Event.{Event}
 use Rattle.vec_outside.specs.Disk.{Disk, IsDurable}
 use Rattle.vec_outside.specs.declared.disks.Area.{Area}
 use Rattle.page_log.specs.Batches.{Placed, Tail, AreBatches, IsBatch, IsOpenAt, IsLog, room_of}

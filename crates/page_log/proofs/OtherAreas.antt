@@ -1,7 +1,7 @@
 -- The areas that a call does not name.
 use Rattle.std.proofs.Common.{◌≢◌, ℕ, ◌∙◌}
 use Rattle.vec_outside.specs.declared.disks.Area.{Area}
-use Rattle.vec_outside.specs.Disk.{Disk, Image, IsImage, IsWritten, IsTornImage, LeavesOnly}
+use Rattle.vec_outside.specs.Disk.{Disk, IsImage, IsWritten, IsTornImage, LeavesOnly}
 use Rattle.vec_outside.proofs.Moments.{weakened, joined}
 use Rattle.page_log.specs.Going.{KeepsOthers}
 use Rattle.page_log.specs.Steps.{OnlyReads}

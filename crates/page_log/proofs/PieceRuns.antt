@@ -1,7 +1,7 @@
 -- A batch that is read piece by piece.
-use Rattle.std.proofs.Common.{◌≡◌, ◌≢◌, ◌⊎◌, inl, inr, true, min, ℕ, zero, suc, ◌+◌, ◌-◌, ◌*◌, ◌<◌, ◌≤◌, List, [], ◌∷◌, ◌++◌, Option, Some, None, length, take, drop, drop-drop, refl, sym, ap, ◌∙◌, subst, arith, append_assoc, append-nil, length-append, length-drop}
-use Rattle.std.proofs.lemmas.List.{length-take, take-take, drop-take, take-append-drop, drop-append-le, drop_all, drop_at, take_at}
-use Rattle.page_log.specs.Batches.{Placed, Begins, AreEvents, room_of}
+use Rattle.std.proofs.Common.{◌≡◌, ◌≢◌, ◌⊎◌, inl, inr, true, min, ℕ, zero, suc, ◌+◌, ◌-◌, ◌*◌, ◌<◌, ◌≤◌, List, [], ◌∷◌, ◌++◌, Some, None, length, take, drop, drop-drop, refl, sym, ap, ◌∙◌, subst, arith, append_assoc, append-nil, length-append, length-drop}
+use Rattle.std.proofs.lemmas.List.{length-take, take-take, drop-take, take-append-drop, drop-append-le, drop_all, drop_at}
+use Rattle.page_log.specs.Batches.{Placed, AreEvents, room_of}
 use Rattle.page_log.specs.Steps.{AreFirst, AddsFirst, BeginNone, IsBad}
 use Rattle.page_log.specs.declared.events.Piece.{Piece}
 use Rattle.page_log.proofs.EventRuns.{first_more, first_then, first_ends, first_within, first_shorter, hint_typed, hint_writable}

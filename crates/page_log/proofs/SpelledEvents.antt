@@ -1,6 +1,6 @@
 -- Events one after the other, by their bytes and by their places.
-use Rattle.std.proofs.Common.{◌≡◌, ℕ, ◌+◌, ◌<◌, ◌≤◌, List, [], ◌∷◌, ◌++◌, None, length, map, refl, sym, ap, ◌∙◌, subst, arith, append_assoc, length-append}
-use Rattle.vec_event.specs.Spelling.{spelling, IsTyped, IsWritable}
+use Rattle.std.proofs.Common.{◌≡◌, ℕ, ◌+◌, ◌≤◌, List, [], ◌∷◌, ◌++◌, None, length, map, refl, sym, ap, ◌∙◌, arith, append_assoc, length-append}
+use Rattle.vec_event.specs.Spelling.{spelling}
 use Rattle.vec_history.specs.declared.event.Event.{Event}
 use Rattle.page_log.specs.Batches.{Placed, AreEvents, room_of}
 use Rattle.page_log.specs.Going.{AreWritable, spelled, room}

@@ -1,10 +1,10 @@
 -- The images of a log while a batch is written behind its seal, and while that seal is opened.
-use Rattle.std.proofs.Common.{◌≡◌, ◌≢◌, ◌⊎◌, inl, inr, Bool, true, false, ℕ, ◌+◌, ◌<◌, ◌≤◌, List, [], ◌∷◌, ◌++◌, length, take, drop, refl, sym, ◌∙◌, ap, subst, arith, append-nil, append_assoc, length-append}
+use Rattle.std.proofs.Common.{◌≡◌, ◌⊎◌, inl, inr, Bool, true, false, ℕ, ◌+◌, ◌<◌, ◌≤◌, List, [], ◌∷◌, ◌++◌, length, take, drop, refl, sym, ◌∙◌, ap, subst, arith, length-append}
 use Rattle.std.proofs.lemmas.List.{take_at, drop_at}
 use Rattle.vec_history.specs.declared.event.Event.{Event}
-use Rattle.vec_outside.specs.Disk.{Disk, Image, IsImage, IsTorn, IsTornImage, IsWritten, LeavesOnly, spliced}
+use Rattle.vec_outside.specs.Disk.{Disk, IsTorn, IsTornImage, IsWritten, LeavesOnly, spliced}
 use Rattle.vec_outside.proofs.Moments.{weakened}
-use Rattle.page_log.specs.Going.{AreWritable, spelled, room, body_of, IsBetween, LeadsTo, IsSealed, Unsettled, IsGoing, GoesOn, ComesFrom}
+use Rattle.page_log.specs.Going.{AreWritable, spelled, room, body_of, IsBetween, IsSealed, Unsettled, IsGoing, ComesFrom}
 use Rattle.page_log.proofs.SpelledEvents.{writable_rest, room_append}
 use Rattle.page_log.proofs.OtherAreas.{keeps_writing}
 use Rattle.page_log.proofs.Seals.{torn_behind, torn_seal, written_behind, written_seal}

@@ -1,5 +1,5 @@
 -- The bytes behind a batch's seal, and a batch that was put back into a log.
-use Rattle.std.specs.Prelude.{◌≡◌, ℕ, ◌+◌, ◌-◌, List, length, take, drop, Option, Some, None}
+use Rattle.std.specs.Prelude.{◌≡◌, ℕ, ◌+◌, length, Option, Some, None}
 use Rattle.std.specs.Option.{ForSome}
 use Rattle.page_log.specs.declared.pending.Pending.{Pending}
 use Rattle.vec_outside.specs.declared.disks.Area.{Area}

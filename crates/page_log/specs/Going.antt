@@ -1,10 +1,10 @@
 -- A log that goes on: which of its events are settled, which are still to be written, and what a crash leaves of both.
-use Rattle.std.specs.Prelude.{◌≡◌, ◌≢◌, ℕ, ◌+◌, ◌-◌, ◌<◌, ◌≤◌, Bool, true, false, List, [], ◌∷◌, ◌++◌, length, take, drop, map, Option, None, ⊤}
+use Rattle.std.specs.Prelude.{◌≡◌, ◌≢◌, ℕ, ◌+◌, ◌-◌, ◌<◌, ◌≤◌, Bool, true, false, List, [], ◌∷◌, ◌++◌, length, take, drop, map, None, ⊤}
 use Rattle.std.specs.Int.{w32, to_le_bytes}
 use Rattle.std.specs.List.{flat_map}
 use Rattle.vec_event.specs.Spelling.{spelling, IsTyped, IsWritable}
 use Rattle.vec_history.specs.declared.event.Event.{Event}
-use Rattle.vec_outside.specs.Disk.{Disk, Image, LeavesOnly}
+use Rattle.vec_outside.specs.Disk.{Disk, LeavesOnly}
 use Rattle.vec_outside.specs.declared.disks.Area.{Area}
 use Rattle.page_log.specs.Batches.{Placed, Tail, AreBatches, IsLog}
 use Rattle.page_log.specs.declared.limits.TheConstants.{MOST_USED, OPEN}
@@ -111,7 +111,8 @@ pub record IsGoing (base : List ℕ) (log : Unsettled) (disk : Disk) (settled pe
 
 -- From a log that was going with the disk, while these events were added: some more of its events are settled, in order, and
 -- every image of every moment has all that were settled and some of the others, in order.
-pub record GoesOn (base : List ℕ) (old : Unsettled) (before : Disk) (new : Unsettled) (after : Disk) (settled pending : List Event) : Type 0 where
+pub record GoesOn (base : List ℕ) (old : Unsettled) (before : Disk) (new : Unsettled) (after : Disk)
+    (settled pending : List Event) : Type 0 where
   pub count : ℕ
   pub within : count ≤ length pending
   pub going : IsGoing base new after (settled ++ take count pending) (drop count pending)
@@ -132,4 +133,5 @@ pub record ComesFrom (old : Unsettled) (before : Disk) (new : Unsettled) (after 
 -- all that was pending is settled
 abbrev pub SettlesAll : Unsettled → Disk → Unsettled → Disk → Type 0
 SettlesAll old before new after =
-    (base : List ℕ) (settled pending : List Event) → IsGoing base old before settled pending → IsGoing base new after (settled ++ pending) []
+    (base : List ℕ) (settled pending : List Event) → IsGoing base old before settled pending
+    → IsGoing base new after (settled ++ pending) []

@@ -22,5 +22,6 @@ IsDiskFault before now (Disk count) = (count ≡ now) × Rose before now
 -- an event is refused just where it has no room beside what is used, and else for memory only with no spare
 abbrev pub IsAppendFault : ℕ → ℕ → Event → LogFault → Type 0
 IsAppendFault used spare event Memory = (spare ≡ 0) × (used + (length (spelling event) + 5) ≤ MOST_USED)
-IsAppendFault used spare event (Full taken size) = (taken ≡ used) × (size ≡ length (spelling event)) × (MOST_USED < used + (length (spelling event) + 5))
+IsAppendFault used spare event (Full taken size) =
+    (taken ≡ used) × (size ≡ length (spelling event)) × (MOST_USED < used + (length (spelling event) + 5))
 IsAppendFault used spare event (Disk count) = ⊥

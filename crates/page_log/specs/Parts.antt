@@ -1,11 +1,10 @@
 -- What is not settled of a log and of a batch that was taken out of it.
-use Rattle.std.specs.Prelude.{◌≡◌, ℕ, ◌+◌, ◌-◌, ◌<◌, ◌≤◌, ◌%◌, ◌==◌, if◌then◌else◌, Bool, true, false, List, [], ◌∷◌, ◌++◌, length, take, drop, Option, Some, None}
+use Rattle.std.specs.Prelude.{◌≡◌, ℕ, ◌+◌, ◌≤◌, ◌%◌, ◌==◌, if◌then◌else◌, Bool, true, false, [], ◌++◌, length, drop, Option, Some, None}
 use Rattle.vec_event.specs.Spelling.{spelling}
 use Rattle.vec_history.specs.declared.event.Event.{Event}
-use Rattle.vec_outside.specs.Disk.{Disk}
 use Rattle.vec_outside.specs.declared.disks.Area.{Area}
 use Rattle.vec_outside.specs.declared.disks.Area.TheVariants.{Log0, Log1}
-use Rattle.page_log.specs.Going.{Newer, Unsettled, IsGoing, body_of, payload}
+use Rattle.page_log.specs.Going.{Newer, Unsettled, body_of, payload}
 use Rattle.page_log.specs.declared.pending.Pending.{Pending}
 use Rattle.page_log.specs.declared.log.Log.{Log}
 

@@ -1,5 +1,5 @@
 -- What finding and reading one batch makes of what was read before.
-use Rattle.std.specs.Prelude.{◌≡◌, ◌≢◌, ◌⊎◌, ℕ, ◌+◌, ◌*◌, ◌<◌, ◌≤◌, ◌∷◌, ◌^◌, ◌++◌, Bool, true, List, [], Option, Some, None, length, take, drop}
+use Rattle.std.specs.Prelude.{◌≡◌, ◌⊎◌, ℕ, ◌+◌, ◌<◌, ◌≤◌, ◌∷◌, ◌^◌, ◌++◌, true, List, [], Option, Some, None, length, take, drop}
 use Rattle.std.specs.Int.{w32, to_le_bytes}
 use Rattle.page_log.specs.Batches.{Placed, Begins, AreEvents, AreBatches, IsBatch, IsOpenAt, room_of}
 use Rattle.page_log.specs.declared.finding.Found.{Found}

@@ -1,4 +1,4 @@
-use Rattle.std.proofs.Common.{◌≡◌, ◌++◌, ◌∙◌, [], length, refl, sym, ap, arith}
+use Rattle.std.proofs.Common.{◌≡◌, ◌++◌, ◌∙◌, [], length, sym, ap, arith}
 use Rattle.std.proofs.lemmas.List.{take_rest}
 use Rattle.page_log.proofs.EventRuns.{reads_one, ends, shorter, begin_none, begins_nothing, is_bad, empty}
 use Rattle.vec_event.specs.Spelling.{spelling}

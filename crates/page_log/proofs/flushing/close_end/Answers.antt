@@ -1,8 +1,5 @@
-use Rattle.std.proofs.Common.{◌≡◌, ◌≤◌, ◌<◌, true, false, ℕ, List, [], length, refl, sym, ◌∙◌, ap, arith, rules, inl, inr}
-use Rattle.vec_history.specs.declared.event.Event.{Event}
-use Rattle.vec_outside.specs.Disk.{Disk, Image, IsImage}
-use Rattle.page_log.specs.Going.{Unsettled, IsGoing, ComesFrom}
-use Rattle.page_log.specs.Steps.{OnlyReads}
+use Rattle.std.proofs.Common.{true, false, [], length, ap, arith, rules, inl, inr}
+use Rattle.page_log.specs.Going.{ComesFrom}
 use Rattle.page_log.specs.Parts.{out}
 use Rattle.page_log.proofs.Fronts.{read_one}
 use Rattle.page_log.proofs.Coming.{comes_reading, comes_further}

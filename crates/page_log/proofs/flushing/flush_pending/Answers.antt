@@ -1,4 +1,4 @@
-use Rattle.std.proofs.Common.{rules, ◌≡◌, List, [], length, ℕ, refl}
+use Rattle.std.proofs.Common.{rules, ◌≡◌, length, refl}
 use Rattle.page_log.specs.Parts.{out, past}
 use Rattle.page_log.proofs.Coming.{comes_empty, all_settled, no_bytes}
 use Rattle.page_log.proofs.flushing.flush_pending.Goals as goal

@@ -1,4 +1,4 @@
-use Rattle.std.proofs.Common.{◌≡◌, ◌+◌, ℕ, List, ◌∙◌, ap, refl}
+use Rattle.std.proofs.Common.{◌+◌, ℕ, List, ◌∙◌, ap}
 use Rattle.vec_outside.specs.Disk.{spliced}
 use Rattle.page_log.specs.Parts.{out}
 use Rattle.page_log.proofs.Staging.{body_begun, body_written}

@@ -1,6 +1,4 @@
-use Rattle.std.proofs.Common.{◌≡◌, ℕ, List, [], ◌∷◌, ◌∙◌, ap}
 use Rattle.std.proofs.lemmas.Result.{on_ok_weaker}
-use Rattle.vec_outside.specs.Disk.{spliced}
 use Rattle.vec_outside.proofs.Exits.{on_err}
 use Rattle.page_log.specs.Parts.{out}
 use Rattle.page_log.proofs.Staging.{seal_begun, seal_written}

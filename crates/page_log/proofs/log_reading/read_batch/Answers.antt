@@ -1,4 +1,4 @@
-use Rattle.std.proofs.Common.{sym, subst, arith}
+use Rattle.std.proofs.Common.{subst, arith}
 use Rattle.page_log.specs.Batches.{IsBatch}
 use Rattle.page_log.specs.Steps.{IsFound, StopsAt, TakesWhole, bytes_of}
 use Rattle.page_log.proofs.Fronts.{reads_on}

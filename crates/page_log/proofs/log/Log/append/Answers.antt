@@ -1,4 +1,4 @@
-use Rattle.std.proofs.Common.{rules, ◌<◌, ◌≤◌, length, arith}
+use Rattle.std.proofs.Common.{arith}
 use Rattle.page_log.proofs.EventRuns.{some_bytes}
 use Rattle.page_log.proofs.log.Log.append.Goals as goal
 
