@@ -1,1 +1,4 @@
 pub mod Faults
+pub mod Index
+pub mod Doing
+pub mod Telling
