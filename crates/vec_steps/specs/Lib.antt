@@ -2,3 +2,5 @@ pub mod Faults
 pub mod Index
 pub mod Doing
 pub mod Telling
+pub mod Desks
+pub mod Calls

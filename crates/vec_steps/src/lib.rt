@@ -3,10 +3,14 @@
 
 mod ask;
 mod fault;
+mod room;
 mod seen;
+mod steps;
 mod told;
 
 pub use ask::{Ask, NewNode};
 pub use fault::{OpFault, StepFault};
+pub use room::LOG_ROOM;
 pub use seen::{Centre, RowSeen, Seen, Trace, Vacuumed};
+pub use steps::Steps;
 pub use told::{Told, Word};
