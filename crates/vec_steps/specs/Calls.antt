@@ -1,10 +1,12 @@
 -- What a step of a desk is, and what a call over steps does.
-use Rattle.std.specs.Prelude.{◌≡◌, ℕ, ◌+◌, ◌<◌, ◌≤◌, ◌==◌, ⊤, Bool, true, false, List, [], ◌∷◌, ◌++◌, map, filter, take, length, Option, Some, None}
+use Rattle.std.specs.Prelude.{◌≡◌, ◌≢◌, ℕ, ◌+◌, ◌<◌, ◌≤◌, ◌%◌, ◌^◌, ⊤, All, Bool, true, false, List, [], ◌∷◌, ◌++◌, map, filter, take, length, Option, Some, None}
 use Rattle.vec_names.specs.declared.params.Params.{Params}
 use Rattle.vec_event.specs.Spelling.{spelling}
 use Rattle.vec_history.specs.declared.event.Event.{Event}
 use Rattle.vec_history.specs.declared.event.Act.{Act}
+use Rattle.vec_history.specs.declared.gate.Gate.{Gate}
 use Rattle.vec_history.specs.Acts.{act_of, IsRising}
+use Rattle.vec_history.specs.Gates.{Holds}
 use Rattle.vec_history.specs.Settling.{is_lasting, lasting_events}
 use Rattle.graph_search.specs.Deeds.{looked, asked, Takes, Releases, IsMadeAt, own_events}
 use Rattle.vec_steps.specs.declared.room.TheConstants.{LOG_ROOM}
@@ -13,7 +15,7 @@ use Rattle.vec_steps.specs.declared.told.Told.{Told}
 use Rattle.vec_steps.specs.declared.fault.StepFault.{StepFault}
 use Rattle.vec_steps.specs.declared.fault.StepFault.TheVariants as fault
 use Rattle.vec_steps.specs.Index.{Index}
-use Rattle.vec_steps.specs.Doing.{Step, did, viewed, Cleaned, Says, step_events}
+use Rattle.vec_steps.specs.Doing.{Step, did, viewed, Cleaned, Ended, Says, step_events}
 use Rattle.vec_steps.specs.Telling.{step_of, fault_step, left_of}
 use Rattle.vec_steps.specs.Desks.{Room, Desk, taken_by, used_after}
 
@@ -31,6 +33,10 @@ pub record Acts (desk : ℕ) (old new : List Act) (own : List Event) : Type 0 wh
 abbrev pub made_by : Params → Option Step → List Event
 made_by p None = []
 made_by p (Some s) = step_events p s
+
+-- how many events the step of an ask makes: none or one. However a vacuum ends, it makes one
+abbrev pub count_made : Params → Ask → Told → ℕ
+count_made p ask told = length (made_by p (step_of ask told Ended))
 
 -- Acts of others came, and then the one that the step makes, if it makes one. The position is right before that.
 pub record Came (d : Desk) (old new : List Act) (at : ℕ) (o : Option Step) : Type 0 where
@@ -158,6 +164,31 @@ IsNoGate _ = ⊤
 abbrev pub IsQuiet : List (ℕ × Step) → Type 0
 IsQuiet [] = ⊤
 IsQuiet (s ∷ course) = IsNoGate s.1 × IsQuiet course
+
+-- ---- desks that split
+
+-- the desk holds no gate
+abbrev pub HoldsNone : List Act → ℕ → Type 0
+HoldsNone acts desk = (gate : Gate) → Holds acts desk gate → ⊥
+
+-- the two desks of a split: each was split once more, and the second has a number that no other desk has
+abbrev pub first_half : Desk → Desk
+first_half d = record d { depth = d.depth + 1 }
+
+abbrev pub second_half : Desk → Desk
+second_half d = record d { number = d.number + 2 ^ d.depth; depth = d.depth + 1 }
+
+pub record AreHalves (first second : Desk) : Type 0 where
+  pub whole : Desk
+  pub first_is : first ≡ first_half whole
+  pub second_is : second ≡ second_half whole
+
+-- The acts go on after these, and none that comes then is by a desk whose number leaves the same by the power of two that this
+-- desk's depth tells: such acts would be its own, or of desks that were split from it.
+pub record GoesOnWithout (d : Desk) (old new : List Act) : Type 0 where
+  pub more : List Act
+  pub all : new ≡ old ++ more
+  pub none : All (λ a. a.desk % 2 ^ d.depth ≢ d.number % 2 ^ d.depth) more
 
 -- ---- a desk after a call
 

@@ -54,9 +54,9 @@ pub record Desk : Type 0 where
 -- ---- the room that a desk has in reserve
 
 -- each own act takes one of it, while there is any; where it was asked for, there is so much at least
-abbrev pub spare_after : Ask → ℕ → List Event → ℕ
+abbrev pub spare_after : Ask → ℕ → ℕ → ℕ
 spare_after (ask.Reserve events) spare made = max events spare
-spare_after _ spare made = spare - length made
+spare_after _ spare made = spare - made
 
 -- Which asks may want memory. Looks at one tuple, the release of a gate and the end of a vacuum never do; a change on blocks that are
 -- there does not while the desk has spare room.

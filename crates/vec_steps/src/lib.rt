@@ -5,6 +5,7 @@ mod ask;
 mod fault;
 mod room;
 mod seen;
+mod split;
 mod steps;
 mod told;
 
@@ -12,5 +13,6 @@ pub use ask::{Ask, NewNode};
 pub use fault::{OpFault, StepFault};
 pub use room::LOG_ROOM;
 pub use seen::{Centre, RowSeen, Seen, Trace, Vacuumed};
+pub use split::Split;
 pub use steps::Steps;
 pub use told::{Told, Word};

@@ -1,13 +1,13 @@
 //! The steps that a desk makes.
 
-ghost use Rattle.std.specs.Prelude.{◌≡◌, ◌≤◌, ℕ, List, length, OnOk, OnErr, IfOk, IfErr, Some};
+ghost use Rattle.std.specs.Prelude.{◌≡◌, ◌≤◌, ◌-◌, ℕ, List, length, OnOk, OnErr, IfOk, IfErr, Some};
 ghost use Rattle.vec_history.specs.declared.event.Act.{Act};
 ghost use Rattle.vec_steps.specs.declared.fault.StepFault.TheVariants.{Memory};
 ghost use Rattle.vec_steps.specs.Index.{Index, IsShaped, IsLegal, IsOfParams};
 ghost use Rattle.vec_steps.specs.Doing.{settled};
 ghost use Rattle.vec_steps.specs.Telling.{fault_step};
 ghost use Rattle.vec_steps.specs.Desks.{Desk, Asks, WantsMemory, spare_after};
-ghost use Rattle.vec_steps.specs.Calls.{Stepped, Failed, Settles, NotSettled, Goes, made_by};
+ghost use Rattle.vec_steps.specs.Calls.{Stepped, Failed, Settles, NotSettled, Goes, made_by, count_made};
 
 use crate::ask::Ask;
 use crate::fault::StepFault;
@@ -53,13 +53,18 @@ pub trait Steps {
         ensures err { IfErr result (Failed (Asks (stands self.old) (desk self.old) (seen self.old) ask.old) (desk self.old)
             (seen self.old) (seen self.new) ask.old) }
         ensures same { OnErr result (ask.new ≡ ask.old) }
-        ensures wants { IfErr result (λ fault. fault ≡ Memory → WantsMemory (spare self.old) ask.old) };
+        ensures wants { IfErr result (λ fault. fault ≡ Memory → WantsMemory (spare self.old) ask.old) }
+        ensures spare { OnOk result (spare_after ask.old (spare self.old) (count_made (desk self.old).params ask.old told.new)
+            ≤ spare self.new) }
+        ensures spare_kept { IfErr result (λ fault. spare self.old - length (made_by (desk self.old).params (fault_step fault))
+            ≤ spare self.new) };
 
     /// Brings all lasting events that it has seen to the disks, and tells how many are there.
     fn settle(&mut self) -> Result<u64, StepFault>
         ensures goes { Goes desk stands comes_from (stands self.old) self.old self.new }
         ensures ok { IfOk result (Settles (desk self.old) (seen self.old) (seen self.new)) }
-        ensures err { IfErr result (NotSettled (desk self.old) (seen self.old) (seen self.new)) };
+        ensures err { IfErr result (NotSettled (desk self.old) (seen self.old) (seen self.new)) }
+        ensures spare { spare self.old - 1 ≤ spare self.new };
 
     /// It stands on bases that pages can hold, of its own method and parameters; over each its history is legal.
     ghost shaped: { (desk : Self) (base : Index) → stands desk base → IsShaped base };
