@@ -1,4 +1,4 @@
--- How calls over steps follow each other. The lemmas without `only` are for the crates above.
+-- How calls over steps follow each other: lemmas for this crate and those above it.
 use Rattle.std.proofs.Common.{◌≡◌, ℕ, zero, suc, ◌+◌, ◌-◌, ◌≤◌, ◌==◌, Bool, true, false, List, [], ◌∷◌, ◌++◌, map, filter, take, drop, length, slice_get, Option, Some, None, Result, Ok, Err, OnErr, if◌then◌else◌, refl, sym, ap, subst, ◌∙◌, append_assoc, append-nil, arith}
 use Rattle.std.proofs.lemmas.Bool.Decides.{nat_tests}
 use Rattle.std.proofs.lemmas.Option.{none-some}
@@ -19,7 +19,7 @@ use Rattle.vec_steps.specs.Doing.{Step, Says, step_events}
 use Rattle.vec_steps.specs.Doing as doing
 use Rattle.vec_steps.specs.Telling.{step_of, fault_step}
 use Rattle.vec_steps.specs.Desks.{Desk, Asks}
-use Rattle.vec_steps.specs.Calls.{Acts, Came, Does, DoesSo, Failed, Goes, Happened, NotSettled, SaysOf, Settles, Stepped, events_of, made_by, steps_of}
+use Rattle.vec_steps.specs.Calls.{Acts, Came, course_at, Does, DoesSo, Failed, Goes, Happened, NotSettled, SaysOf, Settles, Stepped, events_of, made_by, steps_of}
 
 -- ---- own acts
 
@@ -139,11 +139,6 @@ happened_then {d = d} {mid = mid} {a = a} x y base o =
     subst (λ l. Happened base l d a) (sym y.acts.all) (happened_longer base mid y.acts.more d a (x.happened base o))
 
 -- ---- one step
-
--- a step at its position, if there is one
-abbrev pub course_at : ℕ → Option Step → List (ℕ × Step)
-course_at n None = []
-course_at n (Some s) = (n, s) ∷ []
 
 at_end : (xs : List Act) (a : Act) (ys : List Act) (n : ℕ) → n ≡ length xs → slice_get (xs ++ a ∷ ys) n ≡ Some a
 at_end [] a ys zero e = refl

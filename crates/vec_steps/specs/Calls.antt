@@ -8,7 +8,7 @@ use Rattle.vec_history.specs.declared.gate.Gate.{Gate}
 use Rattle.vec_history.specs.Acts.{act_of, IsRising}
 use Rattle.vec_history.specs.Gates.{Holds}
 use Rattle.vec_history.specs.Settling.{is_lasting, lasting_events}
-use Rattle.graph_search.specs.Deeds.{looked, asked, Takes, Releases, IsMadeAt, own_events}
+use Rattle.graph_search.specs.Deeds.{Deed, looked, asked, Takes, Releases, IsMadeAt, own_events}
 use Rattle.vec_steps.specs.declared.room.TheConstants.{LOG_ROOM}
 use Rattle.vec_steps.specs.declared.ask.Ask.{Ask}
 use Rattle.vec_steps.specs.declared.told.Told.{Told}
@@ -129,6 +129,11 @@ pub record Does (over : Index → Type 0) (d : Desk) (old new : List Act) (cours
   pub rises : IsRising (length old) (map (λ s. s.0) course) (length new)
   pub happened : (base : Index) → over base → Happened base new d course
 
+-- the course of one step at its position, or of none
+abbrev pub course_at : ℕ → Option Step → List (ℕ × Step)
+course_at n None = []
+course_at n (Some s) = (n, s) ∷ []
+
 -- a call whose course is as a word says
 pub record DoesSo (P : List (ℕ × Step) → Type 0) (over : Index → Type 0) (d : Desk) (old new : List Act) : Type 0 where
   pub course : List (ℕ × Step)
@@ -164,6 +169,13 @@ IsNoGate _ = ⊤
 abbrev pub IsQuiet : List (ℕ × Step) → Type 0
 IsQuiet [] = ⊤
 IsQuiet (s ∷ course) = IsNoGate s.1 × IsQuiet course
+
+-- the steps of a course are these deeds of a search or an insert, in order
+abbrev pub AreDeeds : List (ℕ × Step) → List Deed → Type 0
+AreDeeds [] [] = ⊤
+AreDeeds [] (deed ∷ deeds) = ⊥
+AreDeeds (s ∷ course) [] = ⊥
+AreDeeds (s ∷ course) (deed ∷ deeds) = (s.1 ≡ did deed) × AreDeeds course deeds
 
 -- ---- desks that split
 

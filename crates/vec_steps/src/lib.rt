@@ -3,6 +3,7 @@
 
 mod ask;
 mod fault;
+mod law;
 mod room;
 mod seen;
 mod split;
@@ -11,6 +12,7 @@ mod told;
 
 pub use ask::{Ask, NewNode};
 pub use fault::{OpFault, StepFault};
+pub use law::{law_calls, law_deeds, law_step};
 pub use room::LOG_ROOM;
 pub use seen::{Centre, RowSeen, Seen, Trace, Vacuumed};
 pub use split::Split;
