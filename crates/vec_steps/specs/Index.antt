@@ -1,6 +1,7 @@
 -- An index of either method, as the base of a history.
 use Rattle.std.specs.Prelude.{◌≡◌, List, All, length}
 use Rattle.vec_names.specs.declared.params.Params.{Params}
+use Rattle.vec_names.specs.Params.{IsInRange}
 use Rattle.vec_names.specs.declared.params.Kind.TheVariants.{Hnsw, Ivf}
 use Rattle.vec_history.specs.declared.event.Act.{Act}
 use Rattle.vec_graph.specs.declared.graph.Graph.{Graph}
@@ -25,6 +26,11 @@ IsLegal (OfNodes g) acts = nodes_history.IsLegal g acts
 IsLegal (OfLists g) acts = lists_history.IsLegal g acts
 
 -- a graph has these parameters; an index of lists has so many lists, with centres of so many places
-abbrev pub IsOfParams : Params → Index → Type 0
-IsOfParams p (OfNodes g) = (p.kind ≡ Hnsw) × (g.params ≡ p)
-IsOfParams p (OfLists g) = (p.kind ≡ Ivf) × (length g.lists ≡ p.lists) × All (λ l. length l.centre ≡ p.bits) g.lists
+abbrev pub HasParams : Index → Params → Type 0
+HasParams (OfNodes g) p = (p.kind ≡ Hnsw) × (g.params ≡ p)
+HasParams (OfLists g) p = (p.kind ≡ Ivf) × (length g.lists ≡ p.lists) × All (λ l. length l.centre ≡ p.bits) g.lists
+
+-- these are the index's parameters, each in its range
+pub record IsOfParams (p : Params) (base : Index) : Type 0 where
+  pub in_range : IsInRange p
+  pub has : HasParams base p

@@ -6,9 +6,9 @@ ghost use Rattle.vec_steps.specs.declared.fault.StepFault.TheVariants.{Memory};
 
 use crate::fault::StepFault;
 use crate::seen::{Centre, RowSeen, Seen};
+use crate::slots::Slots;
 use arrayvec::ArrayVec;
 use bit_code::Bits;
-use index_sizes::MOST_SLOTS;
 use std::alloc::Global;
 use vec_names::{HeapId, Listed, Params, Tid};
 
@@ -62,7 +62,8 @@ pub struct Told {
     pub next: Option<u32>,
     pub ids: ArrayVec<HeapId, 10>,
     pub bits: Bits,
-    pub tids: Listed<Option<Tid>>,
+    /// The slots of one layer.
+    pub tids: Slots,
     pub nodes: Listed<Seen>,
     pub rows: Listed<RowSeen>,
     pub centres: Listed<Centre>,
@@ -78,7 +79,7 @@ impl Told {
         let Ok(bits) = Bits::zeros(alloc, params.bits) else {
             return Err(StepFault::Memory);
         };
-        let tids = Vec::with_capacity(alloc, MOST_SLOTS)?;
+        let tids = Slots::make(alloc)?;
         Ok(Told {
             at: 0,
             word: Word::Done,
@@ -93,7 +94,7 @@ impl Told {
             next: None,
             ids: ArrayVec::new(),
             bits,
-            tids: Listed::from_vec(tids),
+            tids,
             nodes: Listed::new(alloc),
             rows: Listed::new(alloc),
             centres: Listed::new(alloc),
