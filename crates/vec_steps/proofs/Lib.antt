@@ -1,2 +1,4 @@
 pub mod Following
 pub mod AsDeeds
+pub mod Filling
+pub mod Stillness

@@ -4,3 +4,4 @@ pub mod Doing
 pub mod Telling
 pub mod Desks
 pub mod Calls
+pub mod Still

@@ -9,6 +9,7 @@ mod seen;
 mod slots;
 mod split;
 mod steps;
+mod still_desk;
 mod told;
 
 pub use ask::{Ask, NewNode};
@@ -19,4 +20,5 @@ pub use seen::{Centre, RowSeen, Seen, Trace, Vacuumed};
 pub use slots::Slots;
 pub use split::Split;
 pub use steps::Steps;
+pub use still_desk::StillDesk;
 pub use told::{Told, Word};
