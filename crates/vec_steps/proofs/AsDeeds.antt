@@ -1,5 +1,5 @@
 -- A call of a search or an insert, in the words of what these do.
-use Rattle.std.proofs.Common.{◌≡◌, ℕ, ◌+◌, ◌-◌, ◌≤◌, List, [], ◌∷◌, ◌++◌, map, take, drop, length, Option, Some, None, refl, sym, ap, ap₂, subst, ◌∙◌, arith}
+use Rattle.std.proofs.Common.{◌≡◌, ℕ, ◌-◌, List, [], ◌∷◌, ◌++◌, map, take, drop, length, refl, sym, ap, ap₂, subst, ◌∙◌, arith}
 use Rattle.std.proofs.Math.Seq.{take-length}
 use Rattle.std.proofs.lemmas.List.{length-append}
 use Rattle.vec_names.specs.declared.params.Params.{Params}
@@ -9,7 +9,7 @@ use Rattle.vec_graph.specs.declared.graph.Graph.{Graph}
 use Rattle.graph_search.specs.Deeds as deeds
 use Rattle.graph_search.specs.Deeds.{Deed, looked, asked, AreDoneAt, IsDoneAt, DidBetween, IsMadeAt, own_events, deed_events}
 use Rattle.vec_steps.specs.Index.{Index, OfNodes}
-use Rattle.vec_steps.specs.Doing.{Step, did, Says, step_events}
+use Rattle.vec_steps.specs.Doing.{Step, did, step_events}
 use Rattle.vec_steps.specs.Desks.{Desk}
 use Rattle.vec_steps.specs.Calls.{AreDeeds, Does, Happened, HappenedAt, events_of, steps_of}
 
@@ -54,7 +54,7 @@ did_between {over} {d} {old} {new} {course} g ds same on are x = record {
   rising = x.rises;
   done = all_done g new d course ds same are (x.happened (OfNodes g) on);
   all_own = ap (own_events d.number)
-          (ap (λ (l : List Act). take (length l - length old) (drop (length old) l)) x.acts.all ∙ behind old x.acts.more)
+      (ap (λ (l : List Act). take (length l - length old) (drop (length old) l)) x.acts.all ∙ behind old x.acts.more)
       ∙ x.acts.own_are
       ∙ same_events d.params course ds are
       ∙ ap (λ (p : Params). deeds.events_of p.m ds) (sym same);

@@ -1,5 +1,5 @@
 -- A value that is copied by its bytes.
-use Rattle.std.proofs.Common.{◌≡◌, ◌≤◌, ℕ, Bool, List, length, take, sym, subst, ◌∙◌}
+use Rattle.std.proofs.Common.{◌≡◌, ◌≤◌, ℕ, Bool, List, length, take, subst}
 use Rattle.bit_code.specs.Places.{packed, unpacked, Packed}
 use Rattle.bit_code.proofs.ExactPacking.{packed-Packed, unpacked-packed}
 

@@ -1,14 +1,13 @@
 -- How calls over steps follow each other: lemmas for this crate and those above it.
-use Rattle.std.proofs.Common.{◌≡◌, ℕ, zero, suc, ◌+◌, ◌-◌, ◌≤◌, ◌==◌, Bool, true, false, List, [], ◌∷◌, ◌++◌, map, filter, take, drop, length, slice_get, Option, Some, None, Result, Ok, Err, OnErr, if◌then◌else◌, refl, sym, ap, subst, ◌∙◌, append_assoc, append-nil, arith}
+use Rattle.std.proofs.Common.{◌≡◌, ℕ, zero, suc, ◌+◌, ◌≤◌, ◌==◌, Bool, true, List, [], ◌∷◌, ◌++◌, map, filter, take, length, slice_get, Option, Some, None, if◌then◌else◌, refl, sym, ap, subst, ◌∙◌, append_assoc, append-nil, arith}
 use Rattle.std.proofs.lemmas.Bool.Decides.{nat_tests}
 use Rattle.std.proofs.lemmas.Option.{none-some}
 use Rattle.std.proofs.lemmas.List.{length-append, take-append-le, map-append}
 use Rattle.std.proofs.lemmas.List.Elements.{filter-append}
-use Rattle.std.proofs.Math.Seq.{take-length}
 use Rattle.vec_names.specs.declared.params.Params.{Params}
 use Rattle.vec_history.specs.declared.event.Event.{Event}
 use Rattle.vec_history.specs.declared.event.Act.{Act}
-use Rattle.vec_history.specs.Acts.{act_of, IsActAt, IsRising}
+use Rattle.vec_history.specs.Acts.{act_of, IsRising}
 use Rattle.graph_search.specs.Deeds.{IsMadeAt, own_events}
 use Rattle.vec_steps.specs.declared.ask.Ask.{Ask}
 use Rattle.vec_steps.specs.declared.told.Told.{Told}
@@ -166,9 +165,9 @@ came_does None c says = does_wait (came_acts c)
 came_does {over} {d} {old} {new} {at} (Some s) c says =
     let es : List Event = step_events d.params s in
     let long : length new ≡ length old + length c.others + length (map (act_of d.number) es) =
-        ap (λ (l : List Act). length l) c.all
-        ∙ length-append (old ++ c.others) (map (act_of d.number) es)
-        ∙ ap (λ k. k + length (map (act_of d.number) es)) (length-append old c.others) in
+    ap (λ (l : List Act). length l) c.all
+    ∙ length-append (old ++ c.others) (map (act_of d.number) es)
+    ∙ ap (λ k. k + length (map (act_of d.number) es)) (length-append old c.others) in
     record {
       acts = subst (Acts d.number old new) (sym (append-nil es)) (came_acts c);
       rises = (omega (arith, c.here), omega (arith, c.here, long));

@@ -1,7 +1,6 @@
 -- A still desk fails for want of memory alone, over the bases on which it stands.
-use Rattle.std.proofs.Common.{◌≡◌, ◌≢◌, ℕ, zero, suc, ◌+◌, ◌-◌, ◌*◌, ◌<◌, ◌≤◌, ◌==◌, min, Bool, true, false, if◌then◌else◌, List, [], take, drop, length, Option, Some, None, refl, sym, ap, subst, ◌∙◌, arith}
-use Rattle.std.proofs.lemmas.Bool.Decides.{nat_tests}
-use Rattle.std.proofs.lemmas.Option.{same_Some, none-some}
+use Rattle.std.proofs.Common.{◌≡◌, ℕ, ◌+◌, ◌-◌, ◌*◌, ◌≤◌, ◌==◌, Bool, true, false, if◌then◌else◌, List, [], take, drop, length, Option, refl, sym, subst, ◌∙◌, arith}
+use Rattle.std.proofs.lemmas.Option.{none-some}
 use Rattle.std.proofs.lemmas.List.{length-take, length-drop}
 use Rattle.std.proofs.Math.Nat.{add-mul}
 use Rattle.index_sizes.specs.Sizes.{slots_of_level}
@@ -9,10 +8,8 @@ use Rattle.vec_names.specs.declared.tid.Tid.{Tid}
 use Rattle.vec_names.specs.declared.params.Kind.{Kind}
 use Rattle.vec_names.specs.Params.{IsInRangeOf}
 use Rattle.vec_history.specs.declared.gate.Gate.{Gate}
-use Rattle.vec_graph.specs.declared.node.Node.{Node}
 use Rattle.vec_graph.specs.declared.graph.Graph.{Graph}
 use Rattle.vec_graph.specs.Graph.{node_at, layer_slots}
-use Rattle.vec_graph.specs.Asking.{StandsSo}
 use Rattle.vec_steps.specs.declared.ask.Ask.{Ask}
 use Rattle.vec_steps.specs.declared.ask.Ask.TheVariants as ask
 use Rattle.vec_steps.specs.declared.fault.StepFault.{StepFault}

@@ -17,7 +17,7 @@ use Rattle.vec_steps.specs.declared.fault.StepFault.TheVariants as fault
 use Rattle.vec_steps.specs.Index.{Index}
 use Rattle.vec_steps.specs.Doing.{Step, did, viewed, Cleaned, Ended, Says, step_events}
 use Rattle.vec_steps.specs.Telling.{step_of, fault_step, left_of}
-use Rattle.vec_steps.specs.Desks.{Room, Desk, taken_by, used_after}
+use Rattle.vec_steps.specs.Desks.{Desk, taken_by, used_after}
 
 -- ---- histories that go on
 

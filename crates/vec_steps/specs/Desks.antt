@@ -1,5 +1,5 @@
 -- A desk, the room of its log, and what it may ask.
-use Rattle.std.specs.Prelude.{◌≡◌, ℕ, ◌+◌, ◌-◌, ◌<◌, ◌≤◌, ⊤, true, max, if◌then◌else◌, List, [], ◌∷◌, drop, length, sum_by, Option, Some, None}
+use Rattle.std.specs.Prelude.{◌≡◌, ℕ, ◌+◌, ◌-◌, ◌<◌, ◌≤◌, ⊤, true, max, if◌then◌else◌, List, drop, length, sum_by, Some}
 use Rattle.vec_names.specs.declared.tid.Tid.{Tid}
 use Rattle.vec_names.specs.declared.params.Params.{Params}
 use Rattle.vec_event.specs.Spelling.{spelling}

@@ -1,16 +1,14 @@
 -- A desk for tests over a graph that nobody changes: what it stands on, and what it answers.
-use Rattle.std.specs.Prelude.{◌≡◌, ℕ, ◌<◌, ◌≤◌, ⊤, List, [], length, Option, Some, None}
+use Rattle.std.specs.Prelude.{◌≡◌, ℕ, ◌<◌, ◌≤◌, ⊤, [], length, Option, Some}
 use Rattle.std.proofs.Common.{refl, sym, ap, subst, ◌∙◌}
 use Rattle.index_sizes.specs.declared.limits.TheConstants.{MOST_IDS, MOST_SLOTS}
-use Rattle.vec_names.specs.declared.params.Params.{Params}
 use Rattle.vec_names.specs.declared.params.Kind.TheVariants.{Hnsw}
 use Rattle.vec_names.specs.Params.{IsInRange}
-use Rattle.vec_history.specs.declared.event.Act.{Act}
 use Rattle.vec_graph.specs.declared.node.Node.{Node}
 use Rattle.vec_graph.specs.declared.graph.Graph.{Graph}
 use Rattle.vec_graph.specs.Graph.{node_at, layer_slots}
 use Rattle.vec_graph.specs.Shaped as nodes
-use Rattle.graph_search.specs.Reads.{AtMeta, OfMeta, Answer, answer_of, node_answer, list_answer}
+use Rattle.graph_search.specs.Reads.{AtMeta, OfMeta, answer_of, node_answer, list_answer}
 use Rattle.vec_steps.specs.declared.ask.Ask.{Ask}
 use Rattle.vec_steps.specs.declared.ask.Ask.TheVariants as ask
 use Rattle.vec_steps.specs.declared.told.Told.{Told}

@@ -1,5 +1,5 @@
 -- What an ask and what it was told come to: a step, or nothing where nothing was asked of the index.
-use Rattle.std.specs.Prelude.{◌≡◌, ℕ, List, [], ◌∷◌, map, Option, Some, None}
+use Rattle.std.specs.Prelude.{ℕ, List, [], ◌∷◌, map, Option, Some, None}
 use Rattle.vec_names.specs.declared.tid.Tid.{Tid}
 use Rattle.vec_history.specs.declared.event.Event.{Event}
 use Rattle.vec_graph.specs.declared.place.Place.{Place}
@@ -21,7 +21,7 @@ use Rattle.vec_steps.specs.declared.told.Word.TheVariants as word
 use Rattle.vec_steps.specs.declared.told.Told.{Told}
 use Rattle.vec_steps.specs.declared.fault.StepFault.{StepFault}
 use Rattle.vec_steps.specs.declared.fault.StepFault.TheVariants as fault
-use Rattle.vec_steps.specs.Doing.{Step, did, overfull, cleaned, viewed, placed, settled, faulted}
+use Rattle.vec_steps.specs.Doing.{Step, did, overfull, cleaned, viewed, placed, faulted}
 use Rattle.vec_steps.specs.Doing.{Cleaned, Relists, Drops, Marks, Empties, Begins, Ends, Cleared, Left, Outdated}
 use Rattle.vec_steps.specs.Doing.{Placed, Adds, Extends, Cuts, Aims, Came, CameAt, HasNoRoom, GoesOn, NoBlockLeft}
 

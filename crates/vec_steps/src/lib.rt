@@ -22,3 +22,6 @@ pub use split::Split;
 pub use steps::Steps;
 pub use still_desk::StillDesk;
 pub use told::{Told, Word};
+
+#[cfg(test)]
+mod tests;

@@ -7,7 +7,11 @@ ghost use Rattle.graph_search.specs.Reads.{AtMeta, OfMeta, OfNode, OfList, answe
 ghost use Rattle.graph_search.specs.Deeds.{is_stale};
 ghost use Rattle.vec_steps.specs.declared.fault.StepFault.TheVariants.{LogFull};
 ghost use Rattle.vec_steps.specs.Telling.{node_told, list_told};
-ghost use Rattle.vec_steps.specs.Still.{AnswersLook, IsRefused, IsOdd, IsWide};
+ghost use Rattle.vec_steps.specs.Still.{AnswersLook, IsRefused, IsOdd, IsWide, still_stands};
+ghost use Rattle.vec_steps.specs.Index.{OfNodes};
+ghost use Rattle.vec_graph.specs.Shaped.{IsShaped};
+ghost use Rattle.vec_names.specs.Params.{IsInRange};
+ghost use Rattle.vec_names.specs.declared.params.Kind.TheVariants.{Hnsw};
 
 use crate::ask::Ask;
 use crate::fault::StepFault;
@@ -26,6 +30,16 @@ pub struct StillDesk {
 }
 
 impl StillDesk {
+    /// A desk over the graph of an index, on which it stands.
+    pub fn over(number: u32, graph: Graph) -> StillDesk
+        requires shaped { IsShaped graph }
+        requires params { IsInRange graph.params }
+        requires of_nodes { graph.params.kind ≡ Hnsw }
+        ensures { still_stands result (OfNodes graph) }
+    {
+        StillDesk { number, graph }
+    }
+
     // What is asked, by the graph; the position is not touched.
     fn answer(&self, ask: &Ask, told: &mut Told) -> Result<(), StepFault>
         ensures ok { OnOk result (AnswersLook self.now.graph ask.now told.new) }
@@ -39,11 +53,7 @@ impl StillDesk {
                 self.tell_meta(told);
                 Ok(())
             }
-            Ask::Node {
-                at,
-                layer,
-                version,
-            } => self.tell_node(*at, *layer, *version, told),
+            Ask::Node { at, layer, version } => self.tell_node(*at, *layer, *version, told),
             Ask::List {
                 at,
                 version,

@@ -1,4 +1,4 @@
-use Rattle.std.proofs.Common.{◌≡◌, Result, Ok, Err, IfErr, refl}
+use Rattle.std.proofs.Common.{Result, Ok, Err, IfErr}
 use Rattle.vec_steps.specs.declared.fault.StepFault.{StepFault}
 use Rattle.vec_steps.proofs.Stillness.{refused}
 use Rattle.vec_steps.proofs.still_desk.StillDeskSteps.step.Goals as goal
