@@ -41,6 +41,10 @@ taken_by e = if is_lasting e then length (spelling e) + 5 else 0
 abbrev pub used_after : Room → List Act → ℕ
 used_after room acts = room.used + sum_by (λ a. taken_by a.event) (drop room.since acts)
 
+-- the position from which acts are counted is one of this history
+abbrev pub IsCountedIn : Room → List Act → Type 0
+IsCountedIn room acts = (count : ℕ) × (length acts ≡ room.since + count)
+
 -- ---- desks
 
 -- What no call over steps changes of a desk: its number, by which its acts are known; how often it was split; the index's parameters;

@@ -17,7 +17,7 @@ use Rattle.vec_steps.specs.declared.fault.StepFault.TheVariants as fault
 use Rattle.vec_steps.specs.declared.still_desk.StillDesk.{StillDesk}
 use Rattle.vec_steps.specs.Index.{Index, OfNodes, OfLists, IsShaped, IsLegal, IsOfParams}
 use Rattle.vec_steps.specs.Telling.{node_told, list_told}
-use Rattle.vec_steps.specs.Desks.{Desk}
+use Rattle.vec_steps.specs.Desks.{Desk, IsCountedIn}
 
 -- ---- the desk
 
@@ -50,6 +50,9 @@ still_index d (OfLists base) s = absurd s
 pub still_legal : (d : StillDesk) (base : Index) → still_stands d base → IsLegal base []
 still_legal d (OfNodes base) s = tt
 still_legal d (OfLists base) s = absurd s
+
+pub still_counted : (d : StillDesk) (base : Index) → still_stands d base → IsCountedIn (still_desk d).room []
+still_counted d base s = (0, refl)
 
 pub still_itself : (d : StillDesk) → still_comes d d
 still_itself d = (refl, refl)

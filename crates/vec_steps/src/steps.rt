@@ -6,7 +6,7 @@ ghost use Rattle.vec_steps.specs.declared.fault.StepFault.TheVariants.{Memory};
 ghost use Rattle.vec_steps.specs.Index.{Index, IsShaped, IsLegal, IsOfParams};
 ghost use Rattle.vec_steps.specs.Doing.{settled};
 ghost use Rattle.vec_steps.specs.Telling.{fault_step};
-ghost use Rattle.vec_steps.specs.Desks.{Desk, Asks, WantsMemory, spare_after};
+ghost use Rattle.vec_steps.specs.Desks.{Desk, Asks, WantsMemory, IsCountedIn, spare_after};
 ghost use Rattle.vec_steps.specs.Calls.{Stepped, Failed, Settles, NotSettled, Goes, made_by, count_made};
 
 use crate::ask::Ask;
@@ -72,6 +72,9 @@ pub trait Steps {
     ghost index: { (d : Self) (base : Index) → stands d base → IsOfParams (desk d).params base };
 
     ghost legal: { (desk : Self) (base : Index) → stands desk base → IsLegal base (seen desk) };
+
+    /// What is used of the log is counted from a position that it has seen.
+    ghost counted: { (d : Self) (base : Index) → stands d base → IsCountedIn (desk d).room (seen d) };
 
     /// Coming from is reflexive and transitive.
     ghost comes_itself: { (desk : Self) → comes_from desk desk };
