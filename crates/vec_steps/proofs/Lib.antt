@@ -2,3 +2,4 @@ pub mod Following
 pub mod AsDeeds
 pub mod Filling
 pub mod Stillness
+pub mod Lasting

@@ -27,6 +27,11 @@ pub record Acts (desk : ℕ) (old new : List Act) (own : List Event) : Type 0 wh
   pub all : new ≡ old ++ more
   pub own_are : own_events desk more ≡ own
 
+-- none of these events is such a one
+abbrev pub NoneOf : (Event → Type 0) → List Event → Type 0
+NoneOf P [] = ⊤
+NoneOf P (e ∷ es) = (P e → ⊥) × NoneOf P es
+
 -- ---- one step
 
 -- the events of a step, if there is one

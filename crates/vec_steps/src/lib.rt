@@ -14,7 +14,7 @@ mod told;
 
 pub use ask::{Ask, NewNode};
 pub use fault::{OpFault, StepFault};
-pub use law::{law_calls, law_deeds, law_step};
+pub use law::{law_calls, law_deeds, law_lasting, law_step};
 pub use room::LOG_ROOM;
 pub use seen::{Centre, RowSeen, Seen, Trace, Vacuumed};
 pub use slots::Slots;

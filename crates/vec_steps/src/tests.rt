@@ -120,5 +120,6 @@ fn laws_of_a_still_desk(rt: HostRuntime) -> Result<(), Fail> {
     law_step(&desk);
     law_calls(&desk, &desk);
     law_deeds(&desk);
+    law_lasting();
     Ok(())
 }
