@@ -3,3 +3,5 @@ pub mod AsDeeds
 pub mod Filling
 pub mod Stillness
 pub mod Lasting
+pub mod Turning
+pub mod Turned

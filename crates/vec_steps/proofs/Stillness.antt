@@ -34,24 +34,24 @@ few_slots m level layer slots long = above m level layer slots (layer == 0) refl
 
 -- ---- what is never so over a base
 
-no_odd : (d : StillDesk) (at : Tid) (layer : ℕ) (version : Option ℕ) (long : ℕ) → long ≡ d.graph.params.bits → IsOdd (node_at d.graph at) long
-    → (base : Index) → Asks (still_stands d) (still_desk d) [] (ask.Node at layer version) base → ⊥
+pub no_odd : (d : StillDesk) (at : Tid) (layer : ℕ) (version : Option ℕ) (long : ℕ) → long ≡ d.graph.params.bits → IsOdd (node_at d.graph at) long
+    → (base : Index) → still_stands d base → ⊥
 no_odd d at layer version long same odd (OfNodes b) o =
-    let s = o.stood.shaped.nodes at odd.node odd.stands in odd.odd (s.as_long ∙ sym same) s.few
-no_odd d at layer version long same odd (OfLists b) o = absurd o.stood
+    let s = o.shaped.nodes at odd.node odd.stands in odd.odd (s.as_long ∙ sym same) s.few
+no_odd d at layer version long same odd (OfLists b) o = absurd o
 
 low_m : (d : StillDesk) (b : Graph) → StandsStill d.graph b → d.graph.params.m ≤ 100
 low_m d b s = (subst (λ (k : Kind). IsInRangeOf k d.graph.params) s.of_nodes s.in_range.of_kind).m_high
 
-no_wide : (d : StillDesk) (at list_at : Tid) (level version layer : ℕ) → IsWide d.graph.params.m (node_at d.graph at) layer
-    → (base : Index) → Asks (still_stands d) (still_desk d) [] (ask.List at list_at level version layer) base → ⊥
+pub no_wide : (d : StillDesk) (at list_at : Tid) (level version layer : ℕ) → IsWide d.graph.params.m (node_at d.graph at) layer
+    → (base : Index) → still_stands d base → ⊥
 no_wide d at list_at level version layer wide (OfNodes b) o =
-    let s = o.stood.shaped.nodes at wide.node wide.stands in
+    let s = o.shaped.nodes at wide.node wide.stands in
     let few = few_slots d.graph.params.m wide.node.level layer wide.node.slots s.as_many in
-    let low = low_m d b o.stood in
+    let low = low_m d b o in
     let much = wide.wide in
     absurd (omega (arith, few, low, much))
-no_wide d at list_at level version layer wide (OfLists b) o = absurd o.stood
+no_wide d at list_at level version layer wide (OfLists b) o = absurd o
 
 no_release : (d : StillDesk) (gate : Gate) (base : Index) → Asks (still_stands d) (still_desk d) [] (ask.Release gate) base → ⊥
 no_release d gate (OfNodes b) o = none-some _ o.may.held.1.1.taken
@@ -80,8 +80,8 @@ pub refused : (d : StillDesk) (q : Ask) (long : ℕ) (f : StepFault) → long �
 refused d ask.Spent long f same e = absurd e
 refused d (ask.Reserve events) long f same e = wants d (ask.Reserve events) f e
 refused d ask.Meta long f same e = absurd e
-refused d (ask.Node at layer version) long f same e = never d (ask.Node at layer version) (no_odd d at layer version long same e.1) f e.0
-refused d (ask.List at list_at level version layer) long f same e = never d (ask.List at list_at level version layer) (no_wide d at list_at level version layer e.1) f e.0
+refused d (ask.Node at layer version) long f same e = never d (ask.Node at layer version) (λ base o. no_odd d at layer version long same e.1 base o.stood) f e.0
+refused d (ask.List at list_at level version layer) long f same e = never d (ask.List at list_at level version layer) (λ base o. no_wide d at list_at level version layer e.1 base o.stood) f e.0
 refused d (ask.Page block) long f same e = wants d (ask.Page block) f e
 refused d (ask.Put block node) long f same e = wants d (ask.Put block node) f e
 refused d (ask.PutNew node) long f same e = wants d (ask.PutNew node) f e

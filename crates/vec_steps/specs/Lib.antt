@@ -5,3 +5,4 @@ pub mod Telling
 pub mod Desks
 pub mod Calls
 pub mod Still
+pub mod Turns

@@ -3,6 +3,7 @@
 
 mod ask;
 mod fault;
+mod gate_desk;
 mod law;
 mod room;
 mod seen;
@@ -14,6 +15,7 @@ mod told;
 
 pub use ask::{Ask, NewNode};
 pub use fault::{OpFault, StepFault};
+pub use gate_desk::{GateDesk, Turn};
 pub use law::{law_calls, law_deeds, law_lasting, law_step};
 pub use room::LOG_ROOM;
 pub use seen::{Centre, RowSeen, Seen, Trace, Vacuumed};

@@ -41,7 +41,7 @@ impl StillDesk {
     }
 
     // What is asked, by the graph; the position is not touched.
-    fn answer(&self, ask: &Ask, told: &mut Told) -> Result<(), StepFault>
+    pub(crate) fn answer(&self, ask: &Ask, told: &mut Told) -> Result<(), StepFault>
         ensures ok { OnOk result (AnswersLook self.now.graph ask.now told.new) }
         ensures err { IfErr result (IsRefused self.now.graph (length told.old.bits) ask.now) }
         ensures at { told.new.at ≡ told.old.at }
