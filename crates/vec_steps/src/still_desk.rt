@@ -85,7 +85,8 @@ impl StillDesk {
         version: Option<u8>,
         told: &mut Told,
     ) -> Result<(), StepFault>
-        ensures ok { OnOk result (node_told told.new.word told.new.list_at told.new ≡ node_answer (node_at self.now.graph at) layer version) }
+        ensures ok { OnOk result (node_told told.new.word told.new.list_at told.new
+            ≡ node_answer (node_at self.now.graph at) layer version) }
         ensures err { IfErr result (λ f. (f ≡ LogFull 0 0) × IsOdd (node_at self.now.graph at) (length told.old.bits)) }
         ensures at { told.new.at ≡ told.old.at }
         ensures bits { length told.new.bits ≡ length told.old.bits }
@@ -100,7 +101,8 @@ impl StillDesk {
     }
 
     fn tell_list(&self, at: Tid, version: u8, layer: u8, told: &mut Told) -> Result<(), StepFault>
-        ensures ok { OnOk result (list_told told.new.word told.new ≡ list_answer self.now.graph.params.m (node_at self.now.graph at) version layer) }
+        ensures ok { OnOk result (list_told told.new.word told.new
+            ≡ list_answer self.now.graph.params.m (node_at self.now.graph at) version layer) }
         ensures err { IfErr result (λ f. (f ≡ LogFull 0 0) × IsWide self.now.graph.params.m (node_at self.now.graph at) layer) }
         ensures at { told.new.at ≡ told.old.at }
         ensures bits { told.new.bits ≡ told.old.bits }
