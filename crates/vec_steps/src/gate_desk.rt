@@ -2,6 +2,7 @@
 #![tactic(auto)]
 
 ghost use Rattle.std.specs.Prelude.{◌≡◌, ℕ, length, OnOk};
+ghost use Rattle.vec_steps.specs.declared.gate_desk.Turn.TheVariants.{Before};
 ghost use Rattle.vec_steps.specs.Index.{Index};
 ghost use Rattle.vec_steps.specs.Still.{still_stands};
 ghost use Rattle.vec_steps.specs.Turns.{acts_of, turn_stands};
@@ -32,7 +33,9 @@ pub struct GateDesk {
 impl GateDesk {
     /// A desk that has taken no gate yet. It stands on what the still desk stands on.
     pub fn over(still: StillDesk) -> GateDesk
-        ensures { (base : Index) → still_stands still base → turn_stands result base }
+        ensures stands { (base : Index) → still_stands still base → turn_stands result base }
+        ensures still { result.still ≡ still }
+        ensures turn { result.turn ≡ Before }
     {
         GateDesk {
             still,
