@@ -6,6 +6,7 @@ use bit_code::read_bits;
 use std::alloc::Global;
 use std::test::*;
 use vec_graph::{Graph, Node};
+use vec_history::{Gate, Hold};
 use vec_names::{HeapId, Kind, Listed, Mapped, Ops, Params, Tid};
 
 /// The parameters of a graph whose values have 4 places, with m 2.
@@ -121,5 +122,23 @@ fn laws_of_a_still_desk(rt: HostRuntime) -> Result<(), Fail> {
     law_calls(&desk, &desk);
     law_deeds(&desk);
     law_lasting();
+    Ok(())
+}
+
+#[test]
+fn a_gate_is_taken_and_given_back(rt: HostRuntime) -> Result<(), Fail> {
+    let mut desk = GateDesk::over(desk(rt.alloc())?);
+    let mut told = Told::make(rt.alloc(), small())?;
+    let mut take = Ask::Take {
+        gate: Gate::Scan,
+        hold: Hold::Shared,
+    };
+    desk.step(&mut take, &mut told)?;
+    assert!(rt; told.word == Word::Done && told.at == 0 && desk.front() == 1);
+    desk.step(&mut Ask::Meta, &mut told)?;
+    assert!(rt; told.word == Word::Meta && told.at == 1 && desk.front() == 1);
+    let mut release = Ask::Release { gate: Gate::Scan };
+    desk.step(&mut release, &mut told)?;
+    assert!(rt; told.word == Word::Done && told.at == 1 && desk.front() == 2);
     Ok(())
 }
