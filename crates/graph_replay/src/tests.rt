@@ -11,7 +11,7 @@ use vec_graph::{Graph, Node, Place};
 use vec_history::Event;
 use vec_names::{HeapId, Kind, Listed, Ops, Params, Tid};
 
-/// A graph of four places with m 2.
+/// A graph of values of four bits with m 2.
 const GRAPH: Params = Params {
     kind: Kind::Hnsw,
     ops: Ops::Hamming,
@@ -137,11 +137,31 @@ fn is_stood_for(
     Ok(
         graph.blocks == other.blocks
             && graph.hint == other.hint
+            && graph.entry == other.entry
+            && graph.level == other.level
             && graph.nodes.len() == other.nodes.len(),
     )
 }
 
-/// Every third event is a Put, the next two a Join and a Link of its node to the first.
+fn join(place: Place, id: HeapId) -> Event {
+    Event::Join {
+        at: place.at,
+        version: place.version,
+        id,
+    }
+}
+
+fn link(place: Place, slot: u16) -> Event {
+    Event::Link {
+        at: place.at,
+        list_at: place.list_at,
+        version: place.version,
+        slot,
+        to: Tid { block: 1, off: 1 },
+    }
+}
+
+/// Every third event is a Put; the next two join an id to its node and link the node to the first.
 #[test]
 fn a_log_of_a_hundred_events(rt: HostRuntime) -> Result<(), Fail> {
     let alloc = rt.alloc();
@@ -155,35 +175,17 @@ fn a_log_of_a_hundred_events(rt: HostRuntime) -> Result<(), Fail> {
         let Some(place) = spot(&graph) else {
             panic!(rt; "the graph has no place")
         };
+        let number = i as u64 * 3;
+        let both = (place.at.block, place.list_at.block);
+        let element = (both.0, both.0);
+        let list = (both.1, both.1);
         let new = put(alloc, place)?;
-        let blocks = (place.at.block, place.list_at.block);
-        assert!(rt; is_replayed(alloc, &mut pages, &mut graph, &new, 1, blocks)?);
+        assert!(rt; is_replayed(alloc, &mut pages, &mut graph, &new, number, both)?);
+        let joined = join(place, row(i + 2));
+        assert!(rt; is_replayed(alloc, &mut pages, &mut graph, &joined, number + 1, element)?);
+        let linked = link(place, i);
+        assert!(rt; is_replayed(alloc, &mut pages, &mut graph, &linked, number + 2, list)?);
         places.push(place.at)?;
-        let join = Event::Join {
-            at: place.at,
-            version: 1,
-            id: row(i + 2),
-        };
-        let block = place.at.block;
-        assert!(rt; is_replayed(alloc, &mut pages, &mut graph, &join, 2, (block, block))?);
-        let link = Event::Link {
-            at: place.at,
-            list_at: place.list_at,
-            version: 1,
-            slot: i,
-            to: Tid { block: 1, off: 1 },
-        };
-        let list_block = place.list_at.block;
-        assert!(rt;
-            is_replayed(
-                alloc,
-                &mut pages,
-                &mut graph,
-                &link,
-                3,
-                (list_block, list_block)
-            )?
-        );
     }
     assert!(rt; pages.len() == 13 && is_stood_for(alloc, &pages, &graph, &places)?);
     Ok(())
