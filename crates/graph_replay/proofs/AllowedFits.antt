@@ -82,7 +82,9 @@ module _ (pages : List Content) (base : Graph) (acts : List Act) (desk : ℕ) (f
   has_list at list_at version n there listed = record { node = n; stands = there.stands; listed = listed }
 
   put_fit : (at list_at : Tid) (version level : ℕ) (id : HeapId) (bits : List Bool) (lists : List (Option Tid))
-      → IsPutAllowed base acts desk at list_at version level bits lists → Fit (Put at list_at version level id bits lists)
+      → IsPutAllowed base acts desk
+      (record { at = at; list_at = list_at; version = version; level = level; id = id; bits = bits; lists = lists })
+      → Fit (Put at list_at version level id bits lists)
   unfolding IsWritable
   put_fit at list_at version level id bits lists may =
       let below = members_below g.params.m level lists may.known in
