@@ -1,14 +1,17 @@
 -- A batch by the turns so far is one by what is held after them.
-use Rattle.std.proofs.Common.{◌≡◌, ◌↔◌, ℕ, zero, suc, ◌||◌, cond, Bool, true, false, List, [], ◌∷◌, ◌++◌, map, flat_map, take, Option, Some, None, refl, sym, subst, ap, ap₂, ◌∙◌, append_assoc, true≢false}
+use Rattle.std.proofs.Common.{◌≡◌, ◌↔◌, ℕ, zero, suc, ◌||◌, cond, Bool, true, false, List, [], ◌∷◌, ◌++◌, map, flat_map, take, Option, Some, None, refl, sym, subst, ap, ap₂, ◌∙◌, append_assoc, true≢false, ◌+◌, not, filter, length}
+use Rattle.list_values.specs.Ranking.{ranked}
+use Rattle.vec_names.specs.Order.{tid_cmp}
+use Rattle.std.specs.Ordering.{eq_by_cmp}
 use Rattle.std.proofs.lemmas.List.{append-nil}
 use Rattle.vec_names.specs.declared.tid.Tid.{Tid}
 use Rattle.vec_names.specs.declared.params.Ops.{Ops}
 use Rattle.neighbour_pick.specs.declared.found.Found.{Found}
 use Rattle.graph_search.specs.Reads.{Look, Answer}
-use Rattle.graph_search.specs.Search.{Start, Turn, Bounds, IsTurn, IsCourse, is_among, is_halted, place_of, known, named, named_in, found_in, fresh, course_reads, only_ef}
+use Rattle.graph_search.specs.Search.{Start, Turn, Bounds, IsTurn, IsCourse, is_among, is_halted, place_of, known, named, named_in, found_in, fresh, course_reads, only_ef, is_before, is_live, is_done, is_most, in_order, elements_of}
 use Rattle.graph_search.specs.Descent.{Descent, no_entry, entry_gone, lowered, start_at}
-use Rattle.graph_search.specs.Scan.{Given, Standing, Mode, Held, HoldsAfter, AreNamed, is_known_at, is_nothing, begins_with, after_turn, after_batch, rows_of, last_dist, below, SearchedBelow, FirstBatch, NextBatch, TakesOne, TakesIn}
-use Rattle.graph_search.specs.ByHolding.{unnamed, IsTurnOf, after_turns, AreTurnsOf, batch_of, elements_in, TakesOf, StandsHolding, stands_after, FirstByHolding, NextByHolding}
+use Rattle.graph_search.specs.Scan.{Given, Standing, Mode, Held, HoldsAfter, AreNamed, is_known_at, is_nothing, begins_with, after_turn, after_batch, rows_of, last_dist, below, SearchedBelow, FirstBatch, NextBatch, TakesOne, TakesIn, is_over}
+use Rattle.graph_search.specs.ByHolding.{unnamed, IsTurnOf, after_turns, AreTurnsOf, batch_of, elements_in, TakesOf, StandsHolding, stands_after, FirstByHolding, NextByHolding, HoldTheSame}
 use Rattle.graph_search.proofs.Holding.{over, found_is, begins}
 use Rattle.graph_search.proofs.Onward.{among_both, batch_taken, named_taken, named_begins, turned, named_turned}
 
@@ -81,6 +84,69 @@ module _ (s : Start) (ef : ℕ) (most : Option ℕ) (taken : List Tid) (earlier 
       (holds_on more (turns ++ t ∷ []) (after_turn s t h)
       (turned s (record { ef = ef; taken = taken; most = most }) turns t taken earlier are turn h holds)
       (named_turned s (record { ef = ef; taken = taken; most = most }) turns t taken earlier are turn) course.1)
+
+-- ---- what holds the same
+
+same_itself : (h : Held) → HoldTheSame h h
+same_itself h = record { names = λ at. refl; unexpanded_are = refl; found_are = refl; count_is = refl }
+
+same_holds : (s : Start) (turns : List Turn) (taken : List Tid) (earlier : List Found) (g h : Held) → HoldTheSame g h
+    → HoldsAfter s turns taken earlier h → HoldsAfter s turns taken earlier g
+same_holds s turns taken earlier g h same holds = record {
+  names = λ at. same.names at ∙ holds.names at;
+  unexpanded_are = same.unexpanded_are ∙ holds.unexpanded_are;
+  found_are = same.found_are ∙ holds.found_are;
+  count_is = same.count_is ∙ holds.count_is;
+}
+
+pub same_stands : (stands : Standing) (g h : Held) → HoldTheSame g h → StandsHolding stands h → StandsHolding stands g
+same_stands stands g h same holds = record {
+  holds = same_holds stands.start stands.turns stands.taken (known stands.start stands.turns) g h same holds.holds;
+  are_named = holds.are_named;
+}
+
+unnamed_same : (p q : Tid → Bool) → ((at : Tid) → p at ≡ q at) → (places : List Tid) → unnamed p places ≡ unnamed q places
+unnamed_same p q same [] = refl
+unnamed_same p q same (at ∷ places) =
+    let p_more : Tid → Bool = λ other. p other || is_among (at ∷ []) other in
+    let q_more : Tid → Bool = λ other. q other || is_among (at ∷ []) other in
+    ap (λ (b : Bool). cond b (unnamed p places) (at ∷ unnamed p_more places)) (same at)
+    ∙ ap₂ (λ (x y : List Tid). cond (q at) x (at ∷ y)) (unnamed_same p q same places)
+    (unnamed_same p_more q_more (λ other. ap (λ (b : Bool). b || is_among (at ∷ []) other) (same other)) places)
+
+over_same : (ef : ℕ) (most : Option ℕ) (g h : Held) → HoldTheSame g h → is_over ef most h ≡ is_over ef most g
+over_same ef most g h same =
+    ap₂ (λ (found : List (Found × Bool)) (least : List Found). is_done ef (map (λ (p : Found × Bool). p.0) found) least || is_most most h.count)
+    (sym same.found_are) (sym same.unexpanded_are)
+    ∙ ap (λ (k : ℕ). is_done ef (map (λ (p : Found × Bool). p.0) g.found) g.unexpanded || is_most most k) (sym same.count_is)
+
+turn_same : (s : Start) (ef : ℕ) (most : Option ℕ) (g h : Held) (t : Turn) → HoldTheSame g h → IsTurnOf s ef most g t → IsTurnOf s ef most h t
+turn_same s ef most g h t same turn = record {
+  goes_on = over_same ef most g h same ∙ turn.goes_on;
+  rest = turn.rest;
+  least = sym same.unexpanded_are ∙ turn.least;
+  looks = turn.looks ∙ unnamed_same g.is_named h.is_named same.names (named_in t.list);
+}
+
+after_same : (s : Start) (g h : Held) (t : Turn) → HoldTheSame g h → HoldTheSame (after_turn s t g) (after_turn s t h)
+after_same s g h t same = record {
+  names = λ at. ap (λ (b : Bool). b || is_among (named_in t.list) at) (same.names at);
+  unexpanded_are = ap (λ (es : List Found). in_order (filter (λ (e : Found). not (eq_by_cmp tid_cmp e.at t.element.at)) es ++ elements_of s.ops s.query t.nodes))
+      same.unexpanded_are;
+  found_are = ap (λ (ps : List (Found × Bool)). ranked (λ (p q : Found × Bool). is_before p.0 q.0)
+      (ps ++ map (λ (e : Found). (e, false)) (filter is_live (elements_of s.ops s.query t.nodes)))) same.found_are;
+  count_is = ap (λ (k : ℕ). k + length (elements_of s.ops s.query t.nodes)) same.count_is;
+}
+
+pub turn_after : (s : Start) (ef : ℕ) (most : Option ℕ) (g h : Held) (turns : List Turn) (t : Turn) → HoldTheSame g (after_turns s turns h)
+    → AreTurnsOf s ef most h turns → IsTurnOf s ef most g t → AreTurnsOf s ef most h (turns ++ t ∷ [])
+turn_after s ef most g h [] t same are turn = (turn_same s ef most g h t same turn, tt)
+turn_after s ef most g h (u ∷ turns) t same are turn = (are.0, turn_after s ef most g (after_turn s u h) turns t same are.1 turn)
+
+pub turned_after : (s : Start) (g h : Held) (turns : List Turn) (t : Turn) → HoldTheSame g (after_turns s turns h)
+    → HoldTheSame (after_turn s t g) (after_turns s (turns ++ t ∷ []) h)
+turned_after s g h [] t same = after_same s g h t same
+turned_after s g h (u ∷ turns) t same = turned_after s g (after_turn s u h) turns t same
 
 -- ---- what is taken
 
@@ -159,7 +225,7 @@ module _ (ef most : ℕ) (mode : Mode) (old : Standing) (h : Held) (reads : List
         more = b.more;
         turns_are = ts;
         held = after_turns old.start b.more h;
-        held_is = refl;
+        held_is = same_itself (after_turns old.start b.more h);
         over = over old.start (old.turns ++ b.more) old.taken (known old.start old.turns) (after_turns old.start b.more h) on.0 ef (Some most)
             ∙ ap (λ (c : Bounds). is_halted old.start c (old.turns ++ b.more)) (sym b.bounds_are) ∙ b.halted;
         again = b.again;
@@ -177,9 +243,9 @@ module _ (ef most : ℕ) (mode : Mode) (old : Standing) (h : Held) (reads : List
       → HoldsAfter old.start (old.turns ++ b.more) old.taken (known old.start old.turns) b.held
       × AreNamed old.start (old.turns ++ b.more) old.taken (known old.start old.turns)
   next_on b =
-      subst (λ (g : Held). HoldsAfter old.start (old.turns ++ b.more) old.taken (known old.start old.turns) g
-      × AreNamed old.start (old.turns ++ b.more) old.taken (known old.start old.turns)) (sym b.held_is)
-      (holds_on old.start ef (Some most) old.taken (known old.start old.turns) b.more old.turns h stands.holds stands.are_named b.turns_are)
+      let on =
+      holds_on old.start ef (Some most) old.taken (known old.start old.turns) b.more old.turns h stands.holds stands.are_named b.turns_are in
+      (same_holds old.start (old.turns ++ b.more) old.taken (known old.start old.turns) b.held (after_turns old.start b.more h) b.held_is on.0, on.1)
 
   next_from : NextByHolding ef most mode old h reads given end now → NextBatch ef most mode old reads given end now
   next_from b =
@@ -247,7 +313,7 @@ module _ (ops : Ops) (query : List Bool) (ef : ℕ) where
         turns = b.turns;
         turns_are = ts;
         held = after_turns (start_at ops query from 0) b.turns (begins_with (start_at ops query from 0));
-        held_is = refl;
+        held_is = same_itself (after_turns (start_at ops query from 0) b.turns (begins_with (start_at ops query from 0)));
         over = over (start_at ops query from 0) b.turns [] []
             (after_turns (start_at ops query from 0) b.turns (begins_with (start_at ops query from 0))) holds.0 ef None ∙ b.halted;
         reads_are = are ∙ ap (λ (z : List (Look × Answer)). down ++ z) b.reads_are;
@@ -316,10 +382,13 @@ module _ (ops : Ops) (query : List Bool) (ef : ℕ) where
     first_on : (b : FirstByHolding ops query ef reads given end now)
         → HoldsAfter (start_at ops query b.from 0) b.turns [] [] b.held × AreNamed (start_at ops query b.from 0) b.turns [] []
     first_on b =
-        subst (λ (g : Held). HoldsAfter (start_at ops query b.from 0) b.turns [] [] g × AreNamed (start_at ops query b.from 0) b.turns [] [])
-        (sym b.held_is)
-        (holds_on (start_at ops query b.from 0) ef None [] [] b.turns [] (begins_with (start_at ops query b.from 0))
-        (begins (start_at ops query b.from 0)) (named_begins (start_at ops query b.from 0)) b.turns_are)
+        let on =
+        holds_on (start_at ops query b.from 0) ef None [] [] b.turns [] (begins_with (start_at ops query b.from 0))
+        (begins (start_at ops query b.from 0)) (named_begins (start_at ops query b.from 0)) b.turns_are in (
+          same_holds (start_at ops query b.from 0) b.turns [] [] b.held
+              (after_turns (start_at ops query b.from 0) b.turns (begins_with (start_at ops query b.from 0))) b.held_is on.0,
+          on.1,
+        )
 
     first_from : FirstByHolding ops query ef reads given end now → FirstBatch ops query ef reads given end now
     first_from b =

@@ -1,5 +1,5 @@
--- The batches of a scan by what code can hold. A turn, a course, the first batch and a next one are each told from what the search holds
--- before it, without the turns that led there.
+-- The batches of a scan by what code can hold: a turn, a course, the first batch and a next one are each told from what the search
+-- holds before it, without the turns that led there.
 use Rattle.std.specs.Prelude.{◌≡◌, ◌||◌, ℕ, ⊤, if◌then◌else◌, Bool, true, false, List, [], ◌∷◌, ◌++◌, map, flat_map, take, Option, Some, None}
 use Rattle.vec_names.specs.declared.tid.Tid.{Tid}
 use Rattle.vec_names.specs.declared.params.Ops.{Ops}
@@ -34,6 +34,14 @@ after_turns s (t ∷ turns) h = after_turns s turns (after_turn s t h)
 abbrev pub AreTurnsOf : Start → ℕ → Option ℕ → Held → List Turn → Type 0
 AreTurnsOf s ef most h [] = ⊤
 AreTurnsOf s ef most h (t ∷ turns) = IsTurnOf s ef most h t × AreTurnsOf s ef most (after_turn s t h) turns
+
+-- Two hold the same where the same places are named and all else is equal. A program's own set of places names the same as a set that is
+-- told here, and is another one.
+pub record HoldTheSame (g h : Held) : Type 0 where
+  pub names : (at : Tid) → g.is_named at ≡ h.is_named at
+  pub unexpanded_are : g.unexpanded ≡ h.unexpanded
+  pub found_are : g.found ≡ h.found
+  pub count_is : g.count ≡ h.count
 
 -- ---- what a batch takes
 
@@ -76,7 +84,7 @@ pub record FirstByHolding (ops : Ops) (query : List Bool) (ef : ℕ) (reads : Li
   pub turns : List Turn
   pub turns_are : AreTurnsOf (start_at ops query from 0) ef None (begins_with (start_at ops query from 0)) turns
   pub held : Held
-  pub held_is : held ≡ after_turns (start_at ops query from 0) turns (begins_with (start_at ops query from 0))
+  pub held_is : HoldTheSame held (after_turns (start_at ops query from 0) turns (begins_with (start_at ops query from 0)))
   pub over : is_over ef None held ≡ true
   pub reads_are : reads ≡ down ++ course_reads 0 turns
   pub given_are : given ≡ flat_map rows_of (elements_in (batch_of ef held))
@@ -93,7 +101,7 @@ pub record NextByHolding (ef most : ℕ) (mode : Mode) (old : Standing) (h : Hel
   pub more : List Turn
   pub turns_are : AreTurnsOf old.start ef (Some most) h more
   pub held : Held
-  pub held_is : held ≡ after_turns old.start more h
+  pub held_is : HoldTheSame held (after_turns old.start more h)
   pub over : is_over ef (Some most) held ≡ true
   pub again : List (Look × Answer)
   pub rows : List Given

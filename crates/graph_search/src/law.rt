@@ -7,7 +7,7 @@ ghost use Rattle.vec_names.specs.declared.params.Ops.{Ops};
 ghost use Rattle.graph_search.specs.Reads.{Look, Answer, AreReadAt};
 ghost use Rattle.graph_search.specs.Scan.{Given, Mode, Standing, FirstBatch, NextBatch, IsTold};
 ghost use Rattle.graph_search.specs.Scan.{IsRowRead, IsPresent, Held, HoldsAfter, after_batch, after_turn, AreNamed, is_over, GoesOnTo, begins_with};
-ghost use Rattle.graph_search.specs.ByHolding.{FirstByHolding, NextByHolding, StandsHolding};
+ghost use Rattle.graph_search.specs.ByHolding.{FirstByHolding, NextByHolding, StandsHolding, HoldTheSame, IsTurnOf, AreTurnsOf, after_turns};
 ghost use Rattle.vec_names.specs.declared.params.Params.{Params as Parameters};
 ghost use Rattle.vec_names.specs.declared.heap_id.HeapId.{HeapId};
 ghost use Rattle.vec_history.specs.declared.event.Event.TheVariants.{Join};
@@ -185,9 +185,11 @@ pub fn law_going_on()
 /// A law, and no work. The batches of a scan are what they are by what code can hold: a first batch is just one from what a search
 /// holds where it begins, and where a scan stands and holds `h`, a next batch is just one from `h`. So the first ef of the held
 /// found ones are the batch, and its end is told from them. What is held after a batch is `after_batch` of what was held when the
-/// search was over, and the scan stands holding that.
+/// search was over, and the scan stands holding that. Whatever holds the same will do (`same`), and one turn more may be told
+/// from it and held after it (`turn`, `turned`): so a program can go on from turn to turn by what it holds alone.
 pub fn law_batches_by_holding()
-    ensures first { (ops : Ops) (query : List Bool) (ef : ℕ) (reads : List (Look × Answer)) (given : List Given) (end : Bool) (now : Standing)
+    ensures first { (ops : Ops) (query : List Bool) (ef : ℕ) (reads : List (Look × Answer)) (given : List Given) (end : Bool)
+        (now : Standing)
         → FirstBatch ops query ef reads given end now ↔ FirstByHolding ops query ef reads given end now }
     ensures first_stands { (ops : Ops) (query : List Bool) (ef : ℕ) (reads : List (Look × Answer)) (given : List Given) (end : Bool)
         (now : Standing) (b : FirstByHolding ops query ef reads given end now) → StandsHolding now (after_batch ef b.held) }
@@ -197,6 +199,12 @@ pub fn law_batches_by_holding()
     ensures next_stands { (ef most : ℕ) (mode : Mode) (old : Standing) (h : Held) (reads : List (Look × Answer)) (given : List Given)
         (end : Bool) (now : Standing) → StandsHolding old h
         → (b : NextByHolding ef most mode old h reads given end now) → StandsHolding now (after_batch ef b.held) }
+    ensures same { (stands : Standing) (g h : Held) → HoldTheSame g h → StandsHolding stands h → StandsHolding stands g }
+    ensures turn { (s : Start) (ef : ℕ) (most : Option ℕ) (g h : Held) (turns : List Turn) (t : Turn)
+        → HoldTheSame g (after_turns s turns h)
+        → AreTurnsOf s ef most h turns → IsTurnOf s ef most g t → AreTurnsOf s ef most h (turns ++ t ∷ []) }
+    ensures turned { (s : Start) (g h : Held) (turns : List Turn) (t : Turn) → HoldTheSame g (after_turns s turns h)
+        → HoldTheSame (after_turn s t g) (after_turns s (turns ++ t ∷ []) h) }
 {}
 
 /// A law, and no work. Worked batches: a scan of 0000 with ef 1, of 0011 at 1/1 and 0111 at 1/3. The first batch gives the row of 1/1
