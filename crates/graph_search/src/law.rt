@@ -18,7 +18,7 @@ ghost use Rattle.vec_graph.specs.Places.{place_on};
 ghost use Rattle.vec_graph.specs.Rules.{IsPlaced};
 ghost use Rattle.vec_graph.specs.Asking.{IsFresh, TakesAnId};
 ghost use Rattle.graph_search.specs.Deeds.{NewNode, Joins, PutsOn, PutsNew, Links, Done, Placed, NoRoom, Stale};
-ghost use Rattle.graph_search.specs.Deeds.{Deed, looks_of, events_of, rows_made, reply_of, HoldsInSlot, AreDoneAt, DidBetween};
+ghost use Rattle.graph_search.specs.Deeds.{Deed, Change, Reply, asked, GotItsWord, looks_of, events_of, rows_made, reply_of, HoldsInSlot, AreDoneAt, DidBetween};
 ghost use Rattle.graph_search.specs.Insert.{Newcomer, InsertLists, may_join, Outcome, Joined, Put, WholeInsert, PutsWhatItFound};
 ghost use Rattle.std.specs.declared.cmp.Ordering.TheVariants.{Less};
 ghost use Rattle.vec_names.specs.Order.{tid_cmp};
@@ -99,11 +99,15 @@ pub fn law_insert()
         → WholeInsert params id bits word (Put place) deeds → PutsWhatItFound params id bits word place deeds }
 {}
 
-/// A law, and no work. Deeds that are looks alone are reads of the history; and what a desk did between two positions, and
-/// then between the second and a third, it did between the first and the third.
+/// A law, and no work. Deeds that are looks alone are reads of the history; each change got its word by the state at its own
+/// position, where its event, if it was done, is the desk's act; and what a desk did between two positions, and then between the
+/// second and a third, it did between the first and the third.
 pub fn law_deeds()
     ensures looks { (base : Graphs) (acts : List Acts) (desk : ℕ) (positions : List ℕ) (reads : List (Look × Answer))
         → AreReadAt base acts positions reads ↔ AreDoneAt base acts desk positions (looks_of reads) }
+    ensures words { (base : Graphs) (acts : List Acts) (desk : ℕ) (positions : List ℕ) (deeds : List Deed) (number : ℕ) (change : Change)
+        (reply : Reply) → AreDoneAt base acts desk positions deeds → slice_get deeds number ≡ Some (asked change reply)
+        → GotItsWord base acts desk positions number change reply }
     ensures together { (base : Graphs) (acts : List Acts) (desk low mid high : ℕ) (first second : List Deed)
         → DidBetween base acts desk low mid first → DidBetween base acts desk mid high second
         → DidBetween base acts desk low high (first ++ second) }
