@@ -95,6 +95,7 @@ pub fn law_insert()
     ensures equal { (params : Parameters) (id : HeapId) (bits : List Bool) (word : ℕ) (e : Elements) (deeds : List Deed)
         → WholeInsert params id bits word (Joined e) deeds → may_join bits e ≡ true }
     ensures same_value { (bits : List Bool) (e : Elements) → may_join bits e ≡ true → length e.bits ≡ length bits → e.bits ≡ bits }
+    ensures room { (bits : List Bool) (e : Elements) → may_join bits e ≡ true → (1 ≤ length e.ids.items) × (length e.ids.items ≤ 9) }
     ensures puts { (params : Parameters) (id : HeapId) (bits : List Bool) (word : ℕ) (place : Places) (deeds : List Deed)
         → WholeInsert params id bits word (Put place) deeds → PutsWhatItFound params id bits word place deeds }
 {}
