@@ -1,6 +1,7 @@
 -- Deeds of a history: one call after another, and what its words say.
-use Rattle.std.proofs.Common.{◌≡◌, ◌↔◌, ℕ, ◌+◌, ◌-◌, ◌≤◌, ◌==◌, List, [], ◌∷◌, ◌++◌, filter, map, take, drop, refl, sym, ap, ap₂, ◌∙◌, append_assoc, arith}
+use Rattle.std.proofs.Common.{◌≡◌, ◌↔◌, ℕ, zero, suc, ◌+◌, ◌-◌, ◌≤◌, ◌==◌, List, [], ◌∷◌, ◌++◌, filter, map, take, drop, slice_get, Some, subst, refl, sym, ap, ap₂, ◌∙◌, append_assoc, arith}
 use Rattle.std.proofs.Math.Seq.{take-add}
+use Rattle.std.proofs.lemmas.Option.{none-some, same_Some}
 use Rattle.std.proofs.lemmas.List.{map-append, drop-drop}
 use Rattle.std.proofs.lemmas.List.Elements.{filter-append}
 use Rattle.vec_history.specs.declared.event.Event.{Event}
@@ -8,7 +9,7 @@ use Rattle.vec_history.specs.declared.event.Act.{Act}
 use Rattle.vec_graph.specs.declared.graph.Graph.{Graph}
 use Rattle.vec_history.specs.Acts.{IsRising}
 use Rattle.graph_search.specs.Reads.{Look, Answer, AreReadAt}
-use Rattle.graph_search.specs.Deeds.{Deed, looks_of, deed_events, events_of, AreDoneAt, own_events, DidBetween}
+use Rattle.graph_search.specs.Deeds.{Deed, Change, Reply, asked, IsDoneAt, GotItsWord, looks_of, deed_events, events_of, AreDoneAt, own_events, DidBetween}
 
 -- ---- positions
 
@@ -45,6 +46,21 @@ module _ (base : Graph) (acts : List Act) (desk : ℕ) where
 
   pub looks_are_reads : (ps : List ℕ) (reads : List (Look × Answer)) → AreReadAt base acts ps reads ↔ AreDoneAt base acts desk ps (looks_of reads)
   looks_are_reads ps reads = (reads_done ps reads, done_reads ps reads)
+
+  -- ---- words
+
+  pub worded : (ps : List ℕ) (ds : List Deed) (i : ℕ) (change : Change) (reply : Reply) → AreDoneAt base acts desk ps ds
+      → slice_get ds i ≡ Some (asked change reply) → GotItsWord base acts desk ps i change reply
+  worded [] [] i change reply done is = absurd (none-some (asked change reply) is)
+  worded [] (d ∷ ds) i change reply done is = absurd done
+  worded (p ∷ ps) [] i change reply done is = absurd done
+  worded (p ∷ ps) (d ∷ ds) zero change reply done is =
+      let there : IsDoneAt base acts desk p (asked change reply) =
+      subst (λ (e : Deed). IsDoneAt base acts desk p e) (same_Some d (asked change reply) is) done.0.1 in
+      record { position = p; stands = refl; reached = done.0.0; word = there.0; made = there.1 }
+  worded (p ∷ ps) (d ∷ ds) (suc i) change reply done is =
+      let there : GotItsWord base acts desk ps i change reply = worded ps ds i change reply done.1 is in
+      record { position = there.position; stands = there.stands; reached = there.reached; word = there.word; made = there.made }
 
   -- ---- one call after another
 

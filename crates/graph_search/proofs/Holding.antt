@@ -13,7 +13,7 @@ firsts earlier [] = refl
 firsts earlier (e ∷ es) = ap (λ (z : List Found). e ∷ z) (firsts earlier es)
 
 module _ (s : Start) (turns : List Turn) (taken : List Tid) (earlier : List Found) (h : Held) (holds : HoldsAfter s turns taken earlier h) where
-  found_is : (ef : ℕ) (most : Option ℕ) → map (λ (p : Found × Bool). p.0) h.found ≡ found_in s (record { ef = ef; taken = taken; most = most }) turns
+  pub found_is : (ef : ℕ) (most : Option ℕ) → map (λ (p : Found × Bool). p.0) h.found ≡ found_in s (record { ef = ef; taken = taken; most = most }) turns
   found_is ef most =
       ap (map (λ (p : Found × Bool). p.0)) holds.found_are ∙ firsts earlier (found_in s (record { ef = ef; taken = taken; most = most }) turns)
 

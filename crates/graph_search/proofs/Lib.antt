@@ -14,3 +14,4 @@ pub mod WorkedThird
 pub mod Merging
 pub mod Onward
 pub mod SameValue
+pub mod Stepping

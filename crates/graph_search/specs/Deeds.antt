@@ -199,6 +199,15 @@ AreDoneAt base acts desk (n ∷ positions) [] = ⊥
 AreDoneAt base acts desk (n ∷ positions) (d ∷ deeds) =
     ((n ≤ length acts) × IsDoneAt base acts desk n d) × AreDoneAt base acts desk positions deeds
 
+-- The change got this word by the state at the position of this number; and where it was done its event is the desk's act just there.
+pub record GotItsWord (base : Graph) (acts : List Act) (desk : ℕ) (positions : List ℕ) (number : ℕ) (change : Change) (reply : Reply)
+    : Type 0 where
+  pub position : ℕ
+  pub stands : slice_get positions number ≡ Some position
+  pub reached : position ≤ length acts
+  pub word : reply ≡ reply_of (state_after base acts position) change
+  pub made : IsMadeAt acts desk position (reply_events base.params.m change reply)
+
 -- the events that a desk made among these acts
 abbrev pub own_events : ℕ → List Act → List Event
 own_events desk acts = map (λ a. a.event) (filter (λ a. a.desk == desk) acts)

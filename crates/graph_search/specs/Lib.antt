@@ -2,6 +2,7 @@ pub mod Reads
 pub mod Search
 pub mod Descent
 pub mod Scan
+pub mod ByHolding
 pub mod Deeds
 pub mod Insert
 pub mod Examples

@@ -7,6 +7,7 @@ ghost use Rattle.vec_names.specs.declared.params.Ops.{Ops};
 ghost use Rattle.graph_search.specs.Reads.{Look, Answer, AreReadAt};
 ghost use Rattle.graph_search.specs.Scan.{Given, Mode, Standing, FirstBatch, NextBatch, IsTold};
 ghost use Rattle.graph_search.specs.Scan.{IsRowRead, IsPresent, Held, HoldsAfter, after_batch, after_turn, AreNamed, is_over, GoesOnTo, begins_with};
+ghost use Rattle.graph_search.specs.ByHolding.{FirstByHolding, NextByHolding, StandsHolding, HoldTheSame, IsTurnOf, AreTurnsOf, after_turns};
 ghost use Rattle.vec_names.specs.declared.params.Params.{Params as Parameters};
 ghost use Rattle.vec_names.specs.declared.heap_id.HeapId.{HeapId};
 ghost use Rattle.vec_history.specs.declared.event.Event.TheVariants.{Join};
@@ -17,7 +18,7 @@ ghost use Rattle.vec_graph.specs.Places.{place_on};
 ghost use Rattle.vec_graph.specs.Rules.{IsPlaced};
 ghost use Rattle.vec_graph.specs.Asking.{IsFresh, TakesAnId};
 ghost use Rattle.graph_search.specs.Deeds.{NewNode, Joins, PutsOn, PutsNew, Links, Done, Placed, NoRoom, Stale};
-ghost use Rattle.graph_search.specs.Deeds.{Deed, looks_of, events_of, rows_made, reply_of, HoldsInSlot, AreDoneAt, DidBetween};
+ghost use Rattle.graph_search.specs.Deeds.{Deed, Change, Reply, asked, GotItsWord, looks_of, events_of, rows_made, reply_of, HoldsInSlot, AreDoneAt, DidBetween};
 ghost use Rattle.graph_search.specs.Insert.{Newcomer, InsertLists, may_join, Outcome, Joined, Put, WholeInsert, PutsWhatItFound};
 ghost use Rattle.std.specs.declared.cmp.Ordering.TheVariants.{Less};
 ghost use Rattle.vec_names.specs.Order.{tid_cmp};
@@ -94,15 +95,20 @@ pub fn law_insert()
     ensures equal { (params : Parameters) (id : HeapId) (bits : List Bool) (word : ℕ) (e : Elements) (deeds : List Deed)
         → WholeInsert params id bits word (Joined e) deeds → may_join bits e ≡ true }
     ensures same_value { (bits : List Bool) (e : Elements) → may_join bits e ≡ true → length e.bits ≡ length bits → e.bits ≡ bits }
+    ensures room { (bits : List Bool) (e : Elements) → may_join bits e ≡ true → (1 ≤ length e.ids.items) × (length e.ids.items ≤ 9) }
     ensures puts { (params : Parameters) (id : HeapId) (bits : List Bool) (word : ℕ) (place : Places) (deeds : List Deed)
         → WholeInsert params id bits word (Put place) deeds → PutsWhatItFound params id bits word place deeds }
 {}
 
-/// A law, and no work. Deeds that are looks alone are reads of the history; and what a desk did between two positions, and
-/// then between the second and a third, it did between the first and the third.
+/// A law, and no work. Deeds that are looks alone are reads of the history; each change got its word by the state at its own
+/// position, where its event, if it was done, is the desk's act; and what a desk did between two positions, and then between the
+/// second and a third, it did between the first and the third.
 pub fn law_deeds()
     ensures looks { (base : Graphs) (acts : List Acts) (desk : ℕ) (positions : List ℕ) (reads : List (Look × Answer))
         → AreReadAt base acts positions reads ↔ AreDoneAt base acts desk positions (looks_of reads) }
+    ensures words { (base : Graphs) (acts : List Acts) (desk : ℕ) (positions : List ℕ) (deeds : List Deed) (number : ℕ) (change : Change)
+        (reply : Reply) → AreDoneAt base acts desk positions deeds → slice_get deeds number ≡ Some (asked change reply)
+        → GotItsWord base acts desk positions number change reply }
     ensures together { (base : Graphs) (acts : List Acts) (desk low mid high : ℕ) (first second : List Deed)
         → DidBetween base acts desk low mid first → DidBetween base acts desk mid high second
         → DidBetween base acts desk low high (first ++ second) }
@@ -179,6 +185,31 @@ pub fn law_going_on()
     ensures batch { (ef most : ℕ) (mode : Mode) (old : Standing) (reads : List (Look × Answer)) (given : List Given) (end : Bool)
         (now : Standing) (b : NextBatch ef most mode old reads given end now) → old.start.layer ≡ 0
         → GoesOnTo old.start ef (Some most) old.turns old.taken (course_reads 0 b.more) b.more }
+{}
+
+/// A law, and no work. The batches of a scan are what they are by what code can hold: a first batch is just one from what a search
+/// holds where it begins, and where a scan stands and holds `h`, a next batch is just one from `h`. So the first ef of the held
+/// found ones are the batch, and its end is told from them. What is held after a batch is `after_batch` of what was held when the
+/// search was over, and the scan stands holding that. Whatever holds the same will do (`same`), and one turn more may be told
+/// from it and held after it (`turn`, `turned`): so a program can go on from turn to turn by what it holds alone.
+pub fn law_batches_by_holding()
+    ensures first { (ops : Ops) (query : List Bool) (ef : ℕ) (reads : List (Look × Answer)) (given : List Given) (end : Bool)
+        (now : Standing)
+        → FirstBatch ops query ef reads given end now ↔ FirstByHolding ops query ef reads given end now }
+    ensures first_stands { (ops : Ops) (query : List Bool) (ef : ℕ) (reads : List (Look × Answer)) (given : List Given) (end : Bool)
+        (now : Standing) (b : FirstByHolding ops query ef reads given end now) → StandsHolding now (after_batch ef b.held) }
+    ensures next { (ef most : ℕ) (mode : Mode) (old : Standing) (h : Held) (reads : List (Look × Answer)) (given : List Given) (end : Bool)
+        (now : Standing) → StandsHolding old h
+        → NextBatch ef most mode old reads given end now ↔ NextByHolding ef most mode old h reads given end now }
+    ensures next_stands { (ef most : ℕ) (mode : Mode) (old : Standing) (h : Held) (reads : List (Look × Answer)) (given : List Given)
+        (end : Bool) (now : Standing) → StandsHolding old h
+        → (b : NextByHolding ef most mode old h reads given end now) → StandsHolding now (after_batch ef b.held) }
+    ensures same { (stands : Standing) (g h : Held) → HoldTheSame g h → StandsHolding stands h → StandsHolding stands g }
+    ensures turn { (s : Start) (ef : ℕ) (most : Option ℕ) (g h : Held) (turns : List Turn) (t : Turn)
+        → HoldTheSame g (after_turns s turns h)
+        → AreTurnsOf s ef most h turns → IsTurnOf s ef most g t → AreTurnsOf s ef most h (turns ++ t ∷ []) }
+    ensures turned { (s : Start) (g h : Held) (turns : List Turn) (t : Turn) → HoldTheSame g (after_turns s turns h)
+        → HoldTheSame (after_turn s t g) (after_turns s (turns ++ t ∷ []) h) }
 {}
 
 /// A law, and no work. Worked batches: a scan of 0000 with ef 1, of 0011 at 1/1 and 0111 at 1/3. The first batch gives the row of 1/1

@@ -4,6 +4,7 @@ use super::*;
 #[test]
 fn laws_of_searches() {
     law_batches();
+    law_batches_by_holding();
     law_deeds();
     law_going_on();
     law_insert();

@@ -1,4 +1,4 @@
-use Rattle.graph_search.proofs.SameValue.{same_value}
+use Rattle.graph_search.proofs.SameValue.{same_value, with_room}
 use Rattle.graph_search.proofs.Inserting.{joins_one, joins_equal, puts_found}
 use Rattle.graph_search.proofs.law.law_insert.Goals as goal
 
@@ -13,3 +13,6 @@ returns-clause-puts c params id bits word place deeds = puts_found params id bit
 
 pub returns-clause-same_value : goal.returns-clause-same_value
 returns-clause-same_value c = same_value
+
+pub returns-clause-room : goal.returns-clause-room
+returns-clause-room c = with_room
