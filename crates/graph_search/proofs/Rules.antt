@@ -1,5 +1,5 @@
 -- The rules of an insert: tries of a neighbour, who becomes the entry point, and who moves the hint.
-use Rattle.std.proofs.Common.{◌≡◌, ℕ, zero, suc, ◌-◌, ◌≤◌, Bool, true, false, cond, List, [], ◌∷◌, ◌++◌, filter, Option, Some, None, refl, sym, ap, subst, ◌∙◌, nat_lt, not, ◌&&◌, ◌==◌, inl, inr, arith, lt-ltb, le-ltb, eq-eqb, ne_eqb}
+use Rattle.std.proofs.Common.{◌≡◌, ℕ, zero, suc, ◌-◌, ◌≤◌, Bool, true, false, cond, List, [], ◌∷◌, ◌++◌, filter, Option, Some, None, refl, sym, ap, ◌∙◌, append_assoc, nat_lt, not, ◌&&◌, ◌==◌, inl, inr, arith, lt-ltb, le-ltb, eq-eqb, ne_eqb}
 use Rattle.std.proofs.Math.Bool.{and-false}
 use Rattle.std.proofs.lemmas.List.{append-nil}
 use Rattle.std.proofs.lemmas.List.Elements.{filter-append}
@@ -14,9 +14,9 @@ use Rattle.vec_history.specs.declared.gate.Hold.TheVariants.{Shared, Alone}
 use Rattle.vec_graph.specs.declared.place.Place.{Place}
 use Rattle.neighbour_pick.specs.declared.found.Found.{Found}
 use Rattle.graph_search.specs.Reads.{Look, AtMeta, Answer, Gone, OfMeta, OfList}
-use Rattle.graph_search.specs.Deeds.{NewNode, Joins, PutsOn, PutsNew, Links, Enters, Hints, Takes, Releases, Reply, Done, Placed, NoRoom, Stale, Changed, Deed, looked, asked, looks_of}
+use Rattle.graph_search.specs.Deeds.{NewNode, Change, Joins, PutsOn, PutsNew, Links, Enters, Hints, Takes, Releases, Reply, Done, Placed, NoRoom, Stale, Changed, Deed, looked, asked, looks_of}
 use Rattle.graph_search.specs.Insert.{Lists, Target, ListLooked, Try, no_list, no_slot, linked, stale, changed, Tries, LinksBack, list_look, link_to, may_join, AsksToJoin, AsksForPlace, entering, hinting, node_of, Newcomer, PutsNode, Put, MetaTold, meta_look, Opens, beside, alone, newcomer, WholeInsert}
-use Rattle.graph_search.specs.InsertRules.{changes_asked, word_after, TriedThrice, is_entering, is_hinting, enterings, hintings, EntersWhereAbove}
+use Rattle.graph_search.specs.InsertRules.{changes_asked, word_after, HowItEnds, is_linked, is_stale, is_gone, is_without, is_changed, TriedThrice, is_entering, is_hinting, enterings, hintings, EntersWhereAbove}
 use Rattle.graph_search.proofs.Inserting.{ends_put, regrouped}
 
 -- ---- tries
@@ -37,6 +37,11 @@ done_is e = absurd cc
 
 stale_is : Some Stale ≡ Some Changed → ⊥
 stale_is e = absurd cc
+
+word_keeps : (word : Option Reply) (r : Reply) (ds : List Deed) → word_after None ds ≡ Some r → word_after word ds ≡ Some r
+word_keeps word r [] is = absurd cc
+word_keeps word r (looked look told ∷ ds) is = is
+word_keeps word r (asked change reply ∷ ds) is = is
 
 module _ (t : Target) (e : Found) (layer : ℕ) where
   then_asked : (deeds : List Deed) (slots : List (Option Tid)) (choice : Option ℕ) (ds : List Deed) → ListLooked t e layer deeds slots choice
@@ -87,6 +92,35 @@ module _ (t : Target) (e : Found) (layer : ℕ) where
       then_asked deeds slots (Some slot) ds l
       ∙ ap suc (all_tries k (Some Changed) later on (sym (then_word word deeds slots (Some slot) ds l) ∙ last))
 
+  further : (first : List Deed) (slots : List (Option Tid)) (choice : Option ℕ) (change : Change) (later : List Deed)
+      → ListLooked t e layer first slots choice → HowItEnds t e layer later → HowItEnds t e layer (first ++ asked change Changed ∷ later)
+  further first slots choice change later l (is_linked is) =
+      is_linked (then_word None first slots choice (asked change Changed ∷ later) l ∙ word_keeps (Some Changed) Done later is)
+  further first slots choice change later l (is_stale is) =
+      is_stale (then_word None first slots choice (asked change Changed ∷ later) l ∙ word_keeps (Some Changed) Stale later is)
+  further first slots choice change later l (is_gone before are) =
+      is_gone (first ++ asked change Changed ∷ before)
+      (ap (λ (z : List Deed). first ++ asked change Changed ∷ z) are
+      ∙ sym (append_assoc first (asked change Changed ∷ before) (looked (list_look e layer) Gone ∷ [])))
+  further first slots choice change later l (is_without before last held are without) =
+      is_without (first ++ asked change Changed ∷ before) last held
+      (ap (λ (z : List Deed). first ++ asked change Changed ∷ z) are ∙ sym (append_assoc first (asked change Changed ∷ before) last)) without
+  further first slots choice change later l (is_changed is) =
+      is_changed (then_word None first slots choice (asked change Changed ∷ later) l ∙ word_keeps (Some Changed) Changed later is)
+
+  ends_of : (k : ℕ) (deeds : List Deed) → Tries t e layer (suc k) deeds → HowItEnds t e layer deeds
+  ends_of k _ no_list = is_gone [] refl
+  ends_of k _ (no_slot deeds slots l) = is_without [] deeds slots refl l
+  ends_of k _ (linked deeds slots slot l) =
+      is_linked (then_word None deeds slots (Some slot) (asked (link_to e layer slot slots t.at) Done ∷ []) l)
+  ends_of k _ (stale deeds slots slot l) =
+      is_stale (then_word None deeds slots (Some slot) (asked (link_to e layer slot slots t.at) Stale ∷ []) l)
+  ends_of zero _ (changed deeds slots slot later l on) =
+      is_changed (then_word None deeds slots (Some slot) (asked (link_to e layer slot slots t.at) Changed ∷ later) l
+      ∙ ap (word_after (Some Changed)) on)
+  ends_of (suc k) _ (changed deeds slots slot later l on) =
+      further deeds slots (Some slot) (link_to e layer slot slots t.at) later l (ends_of k later on)
+
   -- its list is looked at first
   pub record Begins (deeds : List Deed) : Type 0 where
     pub told : Answer
@@ -110,12 +144,15 @@ pub tried : (t : Target) (layer : ℕ) (e : Found) (picks : List (ℕ × Found))
 tried t layer e picks deeds (first, rest, are, tries, others) =
     let b = begins t e layer (λ later. Tries t e layer 2 later) first tries in
     record {
+      tries = first;
+      rest = rest;
+      deeds_are = are;
       told = b.told;
       later = b.later;
-      rest = rest;
-      deeds_are = are ∙ ap (λ (ds : List Deed). ds ++ rest) b.are;
-      few = subst (λ (k : ℕ). k ≤ 3) (ap changes_asked b.are) (few t e layer 3 first tries);
-      not_sooner = λ last. sym (ap changes_asked b.are) ∙ all_tries t e layer 2 None first tries (ap (word_after None) b.are ∙ last);
+      looks_first = b.are;
+      few = few t e layer 3 first tries;
+      not_sooner = λ last. all_tries t e layer 2 None first tries last;
+      ends = ends_of t e layer 2 first tries;
       others = others;
     }
 

@@ -103,10 +103,10 @@ pub fn law_insert()
         → WholeInsert params id bits word (Put place) deeds → PutsWhatItFound params id bits word place deeds }
 {}
 
-/// A law, and no work. Three rules of an insert. Each neighbour is looked at, and asked at most three times; one whose slot was
-/// changed meanwhile at the last of its tries was asked three times. A new node becomes the entry point where there is none or
-/// the node's level is above it, and never at the same level or below. A node above the lowest level moves no hint; one of the lowest
-/// level moves it where its block is not the hint, and only there.
+/// A law, and no work. Three rules of an insert. Each neighbour is looked at, and asked at most three times; it is left sooner only
+/// where it names the newcomer, is not as it was read, or has no list or no slot for it. A new node becomes the entry point
+/// where there is none or the node's level is above it, and never at the same level or below. A node above the lowest level moves
+/// no hint; one of the lowest level moves it where its block is not the hint, and only there.
 pub fn law_insert_rules()
     ensures tries { (t : Target) (layer : ℕ) (e : Elements) (picks : List (ℕ × Elements)) (deeds : List Deed)
         → LinksBack t ((layer, e) ∷ picks) deeds → TriedThrice t layer e picks deeds }
