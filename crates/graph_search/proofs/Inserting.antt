@@ -143,12 +143,12 @@ ends_joined : (n : Newcomer) (id : HeapId) (hint blocks : ℕ) (top : Option ℕ
 ends_joined n id hint blocks top lists (Some f) e rest (is, none) = (cc, none)
 ends_joined n id hint blocks top lists None e rest never = absurd never
 
-ends_put : (n : Newcomer) (id : HeapId) (hint blocks : ℕ) (top : Option ℕ) (lists : Lists) (taken : Option Found) (place : Place) (rest : List Deed)
+pub ends_put : (n : Newcomer) (id : HeapId) (hint blocks : ℕ) (top : Option ℕ) (lists : Lists) (taken : Option Found) (place : Place) (rest : List Deed)
     → EndsAs n id hint blocks top lists taken (Put place) rest → (taken ≡ None) × PutsNode n id hint blocks top lists place rest
 ends_put n id hint blocks top lists (Some f) place rest (is, none) = absurd cc
 ends_put n id hint blocks top lists None place rest p = (refl, p)
 
-regrouped : (front looks joins rest last : List Deed)
+pub regrouped : (front looks joins rest last : List Deed)
     → front ++ (looks ++ joins ++ rest) ++ last ≡ front ++ (looks ++ (joins ++ (rest ++ last)))
 regrouped front looks joins rest last =
     append_assoc front (looks ++ joins ++ rest) last

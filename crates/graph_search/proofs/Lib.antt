@@ -2,6 +2,7 @@ pub mod Ordered
 pub mod WorkedSearch
 pub mod NoEntry
 pub mod Inserting
+pub mod Rules
 pub mod Doing
 pub mod Words
 pub mod WhereFrom

@@ -5,6 +5,7 @@ pub mod Scan
 pub mod ByHolding
 pub mod Deeds
 pub mod Insert
+pub mod InsertRules
 pub mod Examples
 pub mod Batches
 pub mod ThirdInsert

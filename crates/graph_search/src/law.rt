@@ -22,6 +22,7 @@ ghost use Rattle.graph_search.specs.Deeds.{Deed, Change, Reply, asked, GotItsWor
 ghost use Rattle.graph_search.specs.Insert.{Newcomer, InsertLists, may_join, Outcome, Joined, Put, WholeInsert, PutsWhatItFound};
 ghost use Rattle.std.specs.declared.cmp.Ordering.TheVariants.{Less};
 ghost use Rattle.vec_names.specs.Order.{tid_cmp};
+ghost use Rattle.vec_names.specs.Levels.{level_of};
 ghost use Rattle.graph_search.specs.Search.{Start, Bounds, Turn, IsTurn, is_halted, LayerSearch, IsMet, AreExact, is_live, is_before, course_reads, known, place_of};
 ghost use Rattle.graph_search.specs.Examples.{Stand, zeros, last_two, last_three, last_one, element_at, from_first, three_turns};
 ghost use Rattle.graph_search.specs.Examples.{one_turn, from_nearest, turns_through, no_entry_reads, gone_entry_reads, nothing_found, no_lists, first_insert, first_events};
@@ -32,7 +33,9 @@ ghost use Rattle.graph_search.specs.Scan.{Relaxed, Strict, GoesOn, is_less};
 ghost use Rattle.graph_search.specs.Batches.{first, second, third, list_place, row_1, row_2, row_3, told_as, given_of, look_again};
 ghost use Rattle.graph_search.specs.Batches.{first_reads, after_first, second_reads, after_second, after_third, before_reuse, after_reuse};
 ghost use Rattle.graph_search.specs.Reads.{AtList, Gone};
-ghost use Rattle.graph_search.specs.Insert.{LinksBack};
+ghost use Rattle.graph_search.specs.Insert.{LinksBack, Lists, PutsNode, Target};
+ghost use Rattle.graph_search.specs.Deeds.{Hints};
+ghost use Rattle.graph_search.specs.InsertRules.{TriedThrice, EntersWhereAbove, hintings};
 ghost use Rattle.graph_search.specs.ThirdInsert.{third_node, third_reads, third_lists, third_target, third_links};
 
 /// A law, and no work. The search of one layer gives at most ef elements, each of which was live as it was read, and none
@@ -98,6 +101,24 @@ pub fn law_insert()
     ensures room { (bits : List Bool) (e : Elements) → may_join bits e ≡ true → (1 ≤ length e.ids.items) × (length e.ids.items ≤ 9) }
     ensures puts { (params : Parameters) (id : HeapId) (bits : List Bool) (word : ℕ) (place : Places) (deeds : List Deed)
         → WholeInsert params id bits word (Put place) deeds → PutsWhatItFound params id bits word place deeds }
+{}
+
+/// A law, and no work. Three rules of an insert. Each neighbour is looked at, and asked at most three times; it is left sooner only
+/// where it names the newcomer, is not as it was read, or has no list or no slot for it. A new node becomes the entry point
+/// where there is none or the node's level is above it, and never at the same level or below. A node above the lowest level moves
+/// no hint; one of the lowest level moves it where its block is not the hint, and only there.
+pub fn law_insert_rules()
+    ensures tries { (t : Target) (layer : ℕ) (e : Elements) (picks : List (ℕ × Elements)) (deeds : List Deed)
+        → LinksBack t ((layer, e) ∷ picks) deeds → TriedThrice t layer e picks deeds }
+    ensures enters { (params : Parameters) (id : HeapId) (bits : List Bool) (word : ℕ) (place : Places) (deeds : List Deed)
+        → WholeInsert params id bits word (Put place) deeds → EntersWhereAbove params id bits word place deeds }
+    ensures no_hint { (params : Parameters) (id : HeapId) (bits : List Bool) (word : ℕ) (place : Places) (deeds : List Deed)
+        → WholeInsert params id bits word (Put place) deeds → 1 ≤ level_of word params.m → hintings deeds ≡ [] }
+    ensures hint_moves { (n : Newcomer) (id : HeapId) (hint blocks : ℕ) (top : Option ℕ) (lists : Lists) (place : Places)
+        (deeds : List Deed) → PutsNode n id hint blocks top lists place deeds → n.level ≡ 0 → (place.at.block ≡ hint → ⊥)
+        → hintings deeds ≡ asked (Hints place.at.block) Done ∷ [] }
+    ensures hint_stays { (n : Newcomer) (id : HeapId) (hint blocks : ℕ) (top : Option ℕ) (lists : Lists) (place : Places)
+        (deeds : List Deed) → PutsNode n id hint blocks top lists place deeds → place.at.block ≡ hint → hintings deeds ≡ [] }
 {}
 
 /// A law, and no work. Deeds that are looks alone are reads of the history; each change got its word by the state at its own

@@ -8,6 +8,7 @@ fn laws_of_searches() {
     law_deeds();
     law_going_on();
     law_insert();
+    law_insert_rules();
     law_no_entry();
     law_search();
     law_words();
