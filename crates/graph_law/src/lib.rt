@@ -8,9 +8,11 @@
 
 mod counting;
 mod law;
+mod may_mark;
 
 pub use counting::{law_doomed_count, law_place_kept};
 pub use law::{law_behind_drops, law_cleaned, law_examples, law_known, law_scan, law_sound};
+pub use may_mark::law_marks;
 
 #[cfg(test)]
 mod tests;

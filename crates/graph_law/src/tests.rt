@@ -45,5 +45,6 @@ fn laws_before_any_act(rt: HostRuntime) {
     law_cleaned(&base, &acts);
     law_doomed_count(&base, &acts);
     law_place_kept(&base, &acts);
+    law_marks(&base, &acts);
     law_examples();
 }

@@ -25,3 +25,6 @@ law_cleaned-requires-clause-sound c = sound_without c.empty-base.result c.empty-
 
 pub law_doomed_count-requires : goal.law_doomed_count-requires
 law_doomed_count-requires c = on_blocks_of c.empty-base.result (shaped_without c.empty-base.result c.empty-base.ensures.no_nodes c.empty-base.ensures.no_entry c.empty-base.ensures.level_0 c.empty-base.ensures.hint_1 c.empty-base.ensures.one_block)
+
+pub law_marks-requires-clause-shaped : goal.law_marks-requires-clause-shaped
+law_marks-requires-clause-shaped c = shaped_without c.empty-base.result c.empty-base.ensures.no_nodes c.empty-base.ensures.no_entry c.empty-base.ensures.level_0 c.empty-base.ensures.hint_1 c.empty-base.ensures.one_block
