@@ -5,3 +5,4 @@ pub mod Stillness
 pub mod Lasting
 pub mod Turning
 pub mod Turned
+pub mod Legality

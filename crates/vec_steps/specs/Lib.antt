@@ -6,3 +6,4 @@ pub mod Desks
 pub mod Calls
 pub mod Still
 pub mod Turns
+pub mod Granting

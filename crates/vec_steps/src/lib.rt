@@ -4,6 +4,7 @@
 mod ask;
 mod fault;
 mod gate_desk;
+mod granting;
 mod law;
 mod room;
 mod seen;
@@ -16,6 +17,7 @@ mod told;
 pub use ask::{Ask, NewNode};
 pub use fault::{OpFault, StepFault};
 pub use gate_desk::{GateDesk, Turn};
+pub use granting::law_granted;
 pub use law::{law_calls, law_deeds, law_lasting, law_step};
 pub use room::LOG_ROOM;
 pub use seen::{Centre, RowSeen, Seen, Trace, Vacuumed};
