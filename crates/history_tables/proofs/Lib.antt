@@ -1,0 +1,4 @@
+pub mod Entries
+pub mod Noting
+pub mod OneRoom
+pub mod Seeing
