@@ -1,11 +1,12 @@
 -- Chains that end where there is no next block, and chains that grow by one block.
 use Rattle.std.proofs.Common.{◌≡◌, ℕ, zero, suc, ◌+◌, ◌&&◌, ◌||◌, ◌==◌, not, Bool, true, false, List, [], ◌∷◌, ◌++◌, length, Option, Some, None, refl, sym, ap, ap₂, subst, ◌∙◌, arith}
-use Rattle.std.specs.Prelude.{slice_get, if◌then◌else◌, ⊤}
+use Rattle.std.specs.Prelude.{slice_get, if◌then◌else◌}
 use Rattle.std.proofs.lemmas.Bool.{and_parts, or_parts, eqb-true, eq-eqb, ne_eqb}
 use Rattle.std.proofs.lemmas.Option.{slice_get_within}
 use Rattle.page_bytes.specs.Content.{Content}
 use Rattle.page_redo.specs.PageTuples.{is_entries_page}
 use Rattle.ivf_pages.specs.Standing.{is_among, has_entries, next_of, goes_to, followed, ends_at}
+use Rattle.ivf_pages.specs.Walking.{IsEnded}
 use Rattle.ivf_pages.proofs.Chains.{entries_there}
 
 -- ---- the end of a list of blocks
@@ -26,16 +27,9 @@ ends_among b (x ∷ y ∷ xs) is = either (x == b) (is_among b (y ∷ xs)) (ends
 
 -- ---- where chains end
 
--- the chain goes on until there is no next block
-abbrev pub IsEnded : List Content → ℕ → List ℕ → Option ℕ → Type 0
-IsEnded pages zero met None = ⊤
-IsEnded pages zero met (Some block) = ⊥
-IsEnded pages (suc most) met None = ⊤
-IsEnded pages (suc most) met (Some block) = (goes_to pages met block ≡ true) × IsEnded pages most (block ∷ met) (next_of (slice_get pages block))
-
 module _ (pages : List Content) where
   -- where a chain ends there is no next block
-  abbrev EndsSo : List ℕ → Type 0
+  abbrev pub EndsSo : List ℕ → Type 0
   EndsSo chain = (b : ℕ) → ends_at b chain ≡ true → next_of (slice_get pages b) ≡ None
 
   no_next : (block : ℕ) (o : Option ℕ) → o ≡ Some block → o ≡ None → ⊥

@@ -23,7 +23,8 @@ use Rattle.ivf_pages.specs.Standing.{params_on, lists_end, is_among, has_entries
 use Rattle.ivf_pages.proofs.Given.{map_same_on}
 use Rattle.ivf_pages.proofs.Chains.{among_chain, entries_there}
 use Rattle.ivf_pages.proofs.Root.{in_range, entries_behind, list_block_low}
-use Rattle.ivf_pages.proofs.Ended.{ends_append, ends_among, IsEnded, ended, IsGrown, not_new, other_chain, own_chain}
+use Rattle.ivf_pages.proofs.Ended.{ends_append, ends_among, ended, IsGrown, not_new, other_chain, own_chain}
+use Rattle.ivf_pages.specs.Walking.{IsEnded}
 
 or_false : (b : Bool) → (b || false) ≡ b
 or_false true = refl

@@ -23,3 +23,17 @@ pub mod SmallIndex
 pub mod RedoneThere
 pub mod LegalReplay
 pub mod RootKept
+pub mod MarkChanges
+pub mod Walks
+pub mod MarkedLists
+pub mod Judged
+pub mod TuplePages
+pub mod WholeChains
+pub mod Assembled
+pub mod TakenRows
+pub mod Reached
+pub mod RoomTold
+pub mod EntryItems
+pub mod ReadRows
+pub mod BuiltLists
+pub mod Written

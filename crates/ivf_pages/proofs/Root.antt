@@ -21,7 +21,7 @@ use Rattle.page_redo.specs.PageTuples.{in_whole, meta_at, is_graph, is_meta_page
 use Rattle.page_redo.specs.PageChanges.{list_block}
 use Rattle.page_redo.proofs.ItemLaws.{whole_spelled}
 use Rattle.graph_pages.proofs.Given.{then_is, if_is, when_is, item_bytes}
-use Rattle.ivf_pages.specs.Standing.{of_lists, params_on, params_in, lists_end, Stands}
+use Rattle.ivf_pages.specs.Standing.{of_lists, params_on, params_in, lists_end, KeepsRulesOf, Stands}
 
 -- ---- block 0
 
@@ -85,16 +85,18 @@ no_meta_lists Hnsw a b = absurd cc
 no_meta_lists IvfLists a b = absurd cc
 no_meta_lists IvfEntries a b = absurd cc
 
-module _ (p : Params) (pages : List Content) (g : IvfGraph) (s : Stands p pages g) (block : ℕ) (c : Content) (there : slice_get pages block ≡ Some c) where
+-- where the parameters are known and no block breaks a rule
+module _ (p : Params) (pages : List Content) (known : params_in pages ≡ Some p) (whole : (block : ℕ) → KeepsRulesOf p pages block)
+    (block : ℕ) (c : Content) (there : slice_get pages block ≡ Some c) where
   first_kind : block ≡ 0 → is_meta_page c.kind ≡ true
   first_kind first =
-      let r = root_is pages p s.params in
+      let r = root_is pages p known in
       let same : r.page ≡ c = some_is r.page c (sym r.there ∙ ap (slice_get pages) (sym first) ∙ there) in
       ap (λ (d : Content). is_meta_page d.kind) (sym same) ∙ r.of_kind
 
   -- a page of entries is behind those of the list tuples
-  pub entries_behind : is_entries_page c.kind ≡ true → lists_end p < block
-  entries_behind kind = elim (cases_lt (lists_end p) block) as (λ _. lists_end p < block) [
+  pub entries_past : is_entries_page c.kind ≡ true → lists_end p < block
+  entries_past kind = elim (cases_lt (lists_end p) block) as (λ _. lists_end p < block) [
     | inl h ↦ h
     | inr low ↦ by_block block refl low
   ]
@@ -102,9 +104,13 @@ module _ (p : Params) (pages : List Content) (g : IvfGraph) (s : Stands p pages 
       by_block : (b : ℕ) → block ≡ b → block ≤ lists_end p → lists_end p < block
       by_block zero e low = absurd (no_meta c.kind kind (first_kind e))
       by_block (suc b) e low =
-          let l = (s.whole block).lists (omega (arith, e)) low in
+          let l = (whole block).lists (omega (arith, e)) low in
           let same : l.page ≡ c = some_is l.page c (sym l.there ∙ there) in
           absurd (no_lists c.kind kind (ap (λ (d : Content). is_lists_page d.kind) (sym same) ∙ l.kind))
+
+module _ (p : Params) (pages : List Content) (g : IvfGraph) (s : Stands p pages g) (block : ℕ) (c : Content) (there : slice_get pages block ≡ Some c) where
+  pub entries_behind : is_entries_page c.kind ≡ true → lists_end p < block
+  entries_behind kind = entries_past p pages s.params s.whole block c there kind
 
   -- and one of list tuples is none of them, and not block 0
   pub lists_before : is_lists_page c.kind ≡ true → (1 ≤ block) × (block ≤ lists_end p)
@@ -117,7 +123,7 @@ module _ (p : Params) (pages : List Content) (g : IvfGraph) (s : Stands p pages 
   )
     where
       by_block : (b : ℕ) → block ≡ b → 1 ≤ block
-      by_block zero e = absurd (no_meta_lists c.kind kind (first_kind e))
+      by_block zero e = absurd (no_meta_lists c.kind kind (first_kind p pages s.params s.whole block c there e))
       by_block (suc b) e = omega (arith, e)
 
 -- ---- list tuples

@@ -1,6 +1,6 @@
 -- Which pages stand for which index of lists. Block 0 has the meta tuple, the blocks behind it have the list tuples, and all
 -- others have entries, each in the chain of one list. The numbers of the pages are no part of it.
-use Rattle.std.specs.Prelude.{◌≡◌, ℕ, zero, suc, ◌<◌, ◌≤◌, ◌-◌, ◌*◌, ◌&&◌, ◌==◌, if◌then◌else◌, not, min, Bool, true, false, List, [], ◌∷◌, length, map, slice_get, Option, Some, None}
+use Rattle.std.specs.Prelude.{◌≡◌, ℕ, zero, suc, ◌<◌, ◌≤◌, ◌-◌, ◌*◌, ◌&&◌, ◌==◌, if◌then◌else◌, not, min, Bool, true, false, List, [], ◌∷◌, length, map, slice_get, Option, Some, None, Result, Ok, Err}
 use Rattle.std.specs.List.{list_all, list_any, filter_map}
 use Rattle.std.specs.Option.{option_map, option_and_then, is_some}
 use Rattle.index_sizes.specs.Sizes.{centres_on_page}
@@ -14,6 +14,8 @@ use Rattle.ivf_graph.specs.declared.list.IvfList.{IvfList}
 use Rattle.ivf_graph.specs.declared.graph.IvfGraph.{IvfGraph}
 use Rattle.ivf_graph.specs.Graph.{Row, Part}
 use Rattle.ivf_graph.specs.Looks.{centre_pages}
+use Rattle.graph_pages.specs.declared.graph_fault.GraphFault.{GraphFault}
+use Rattle.graph_pages.specs.declared.graph_fault.GraphFault.TheVariants.{Memory, Bad}
 use Rattle.page_redo.specs.PageTuples.{in_whole, meta_at, centre_at, is_graph, is_meta_page, is_lists_page, is_entries_page}
 use Rattle.page_redo.specs.PageChanges.{when, if_so, list_block, list_offset}
 
@@ -170,3 +172,9 @@ pub record Stands (p : Params) (pages : List Content) (g : IvfGraph) : Type 0 wh
   pub count : length g.lists ≡ p.lists
   pub lists : (list : ℕ) → list < p.lists → slice_get g.lists list ≡ list_in p pages list
   pub blocks : g.blocks ≡ length pages
+
+-- the index, or the first block that breaks a rule; of want of memory nothing is said
+abbrev pub IsIndexOf : List Content → Result IvfGraph GraphFault → Type 0
+IsIndexOf pages (Ok g) = (p : Params) × Stands p pages g
+IsIndexOf pages (Err Memory) = Unit {0}
+IsIndexOf pages (Err (Bad block)) = IsFirstBroken pages block

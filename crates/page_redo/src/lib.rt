@@ -19,9 +19,10 @@ mod two_places;
 
 pub use events::redo;
 pub use fault::RedoFault;
-pub use items::{LinksHead, head_of, links_head_of, meta_at};
+pub use items::{LinksHead, centre_head_at, head_of, links_head_of, meta_at};
 pub use law::{law_elsewhere, law_others};
-pub use page_kinds::{holds_nodes, is_graph, is_on_meta};
+pub use list_pages::{list_block, list_offset};
+pub use page_kinds::{holds_entries, holds_lists, holds_nodes, is_graph, is_on_meta};
 
 #[cfg(test)]
 mod tests;

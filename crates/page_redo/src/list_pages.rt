@@ -129,7 +129,7 @@ pub fn aim(page: &mut Page, params: &Params, list: u32, to: u32) -> Option<()>
     Some(())
 }
 
-/// The block of a list's tuple.
+/// The block on which the tuple of a list stands, lists being counted from 0: each such block is full but for the last.
 pub fn list_block(params: &Params, list: u32) -> u64
     requires { IsInRange params.now }
     ensures { result ≡ list_block params.now list }
@@ -137,8 +137,8 @@ pub fn list_block(params: &Params, list: u32) -> u64
     1 + u64::from(list) / centres_on_page(params.bits)
 }
 
-/// The offset of a list's tuple on its page.
-fn list_offset(params: &Params, list: u32) -> u16
+/// The offset, from 1, at which the tuple of a list stands on its page.
+pub fn list_offset(params: &Params, list: u32) -> u16
     requires { IsInRange params.now }
     ensures { result ≡ list_offset params.now list }
 {

@@ -50,9 +50,13 @@ pub fn holds_nodes(page: &Page) -> bool
 pub fn is_on_lists(page: &Page, params: &Params) -> bool
     ensures { result ≡ (not (is_graph params.now.kind) && is_lists_page page.now.kind) }
 {
-    if is_graph(params.kind) {
-        return false;
-    }
+    !is_graph(params.kind) && holds_lists(page)
+}
+
+/// Whether the page holds list tuples.
+pub fn holds_lists(page: &Page) -> bool
+    ensures { result ≡ is_lists_page page.now.kind }
+{
     match page.kind() {
         PageKind::Meta => false,
         PageKind::Hnsw => false,
@@ -65,9 +69,13 @@ pub fn is_on_lists(page: &Page, params: &Params) -> bool
 pub fn is_on_entries(page: &Page, params: &Params) -> bool
     ensures { result ≡ (not (is_graph params.now.kind) && is_entries_page page.now.kind) }
 {
-    if is_graph(params.kind) {
-        return false;
-    }
+    !is_graph(params.kind) && holds_entries(page)
+}
+
+/// Whether the page holds entries.
+pub fn holds_entries(page: &Page) -> bool
+    ensures { result ≡ is_entries_page page.now.kind }
+{
     match page.kind() {
         PageKind::Meta => false,
         PageKind::Hnsw => false,

@@ -1,0 +1,164 @@
+-- What the marks say once the chains of so many lists were followed.
+use Rattle.std.proofs.Common.{◌≡◌, ◌⊎◌, ℕ, zero, suc, ◌+◌, ◌<◌, Bool, true, false, List, length, replicate, get_or, Option, Some, None, refl, sym, ap, subst, ◌∙◌, arith, inl, inr}
+use Rattle.std.specs.Prelude.{slice_get}
+use Rattle.std.specs.Option.{option_map, is_some}
+use Rattle.std.proofs.lemmas.Bool.{and_parts, both_ways, cases_lt, eq-eqb}
+use Rattle.std.proofs.lemmas.List.{length-replicate}
+use Rattle.std.proofs.lemmas.Option.{slice_get_within, slice_get-get_or, same_Some}
+use Rattle.vec_names.specs.declared.params.Params.{Params}
+use Rattle.page_bytes.specs.Content.{Content}
+use Rattle.vec_tuples.specs.declared.centre.CentreTuple.{CentreTuple}
+use Rattle.graph_pages.proofs.Given.{map_is}
+use Rattle.ivf_pages.specs.declared.marks.Mark.{Mark}
+use Rattle.ivf_pages.specs.declared.marks.Mark.TheVariants.{Nowhere, Once, Wrongly}
+use Rattle.ivf_pages.specs.Standing.{is_among, next_of, centre_in, chain_from, chain_of, chain_in, ends_at, has_aim}
+use Rattle.ivf_pages.specs.Walking.{is_last, is_met, stops_short, marked, marked_by, AreChanged, IsBelow, AreBelow, IsShared, IsStopped, IsSo, AreMarked, AreFirstTuples}
+use Rattle.ivf_pages.proofs.Chains.{among_chain, entries_there}
+use Rattle.ivf_pages.proofs.Ended.{ends_among}
+use Rattle.ivf_pages.proofs.Walks.{last_is}
+
+-- ---- before all lists
+
+replicated : (n k : ℕ) (m : Mark) → slice_get (replicate n Nowhere) k ≡ Some m → Nowhere ≡ m
+replicated zero k m is = absurd cc
+replicated (suc n) zero m is = same_Some Nowhere m is
+replicated (suc n) (suc k) m is = replicated n k m is
+
+pub fresh_marked : (p : Params) (pages : List Content) (marks : List Mark) → marks ≡ replicate (length pages) Nowhere → AreMarked p pages 0 marks
+fresh_marked p pages marks fresh = record {
+  long = ap (λ (ms : List Mark). length ms) fresh ∙ length-replicate (length pages) Nowhere;
+  so = λ block m is.
+      subst (IsSo p pages 0 block) (replicated (length pages) block m (ap (λ (ms : List Mark). slice_get ms block) (sym fresh) ∙ is))
+      (λ list low. absurd (omega (arith, low)));
+}
+
+-- ---- one list more
+
+module _ (p : Params) (pages : List Content) (k : ℕ) where
+  so_below : (block : ℕ) (m : Mark) → IsSo p pages k block m → IsBelow k m
+  so_below block Nowhere so = tt
+  so_below block (Once l) so = so.low
+  so_below block (Wrongly l) so = so.0
+
+  pub below : (marks : List Mark) → AreMarked p pages k marks → AreBelow k marks
+  below marks marked block m is = so_below block m (marked.so block m is)
+
+  lifted : (block : ℕ) → IsShared p pages k block ⊎ IsStopped p pages k block → IsShared p pages (k + 1) block ⊎ IsStopped p pages (k + 1) block
+  lifted block (inl s) = inl (record {
+    list = s.list;
+    low = omega (arith, s.low);
+    within = s.within;
+    other = s.other;
+    other_low = omega (arith, s.other_low);
+    other_within = s.other_within;
+    differ = s.differ;
+  })
+  lifted block (inr s) = inr (record { list = s.list; low = omega (arith, s.low); short = s.short })
+
+  -- the list of this number, or one below it
+  by_list : (P : ℕ → Type 0) (list : ℕ) → list < k + 1 → (list < k → P list) → P k → P list
+  by_list P list low before here = elim (cases_lt list k) as (λ _. P list) [
+    | inl h ↦ before h
+    | inr h ↦ let same : k ≡ list = omega (arith, h, low) in subst P same here
+  ]
+
+  next : (block : ℕ) (within short : Bool) → is_among block (chain_in p pages k) ≡ within → stops_short pages block (chain_in p pages k) ≡ short
+      → (m : Mark) → IsSo p pages k block m → IsSo p pages (k + 1) block (marked k within short m)
+  next block within true a s m so = (omega arith, inr (record { list = k; low = omega arith; short = s }))
+  next block true false a s Nowhere so = record {
+    low = omega arith;
+    within = a;
+    only = λ other low is. by_list (λ n. is_among block (chain_in p pages n) ≡ true → n ≡ k) other low
+        (λ h is. absurd (both_ways (is_among block (chain_in p pages other)) (so other h) is)) (λ is. refl) is;
+    goes_on = s;
+  }
+  next block true false a s (Once l) so = (
+    omega arith,
+    inl (record {
+      list = l;
+      low = omega (arith, so.low);
+      within = so.within;
+      other = k;
+      other_low = omega arith;
+      other_within = a;
+      differ = λ e. absurd (omega (arith, e, so.low));
+    }),
+  )
+  next block true false a s (Wrongly l) so = (omega arith, lifted block so.1)
+  next block false false a s Nowhere so = λ list low. by_list (λ n. is_among block (chain_in p pages n) ≡ false) list low (λ h. so list h) a
+  next block false false a s (Once l) so = record {
+    low = omega (arith, so.low);
+    within = so.within;
+    only = λ other low is. by_list (λ n. is_among block (chain_in p pages n) ≡ true → n ≡ l) other low
+        (λ h is. so.only other h is) (λ is. absurd (both_ways (is_among block (chain_in p pages k)) a is)) is;
+    goes_on = so.goes_on;
+  }
+  next block false false a s (Wrongly l) so = (omega (arith, so.0), lifted block so.1)
+
+  pub one_list : (before after : List Mark) → AreMarked p pages k before → AreChanged (marked_by pages k (chain_in p pages k)) before after
+      → AreMarked p pages (k + 1) after
+  one_list before after were changed = record {
+    long = changed.count ∙ were.long;
+    so = λ block m is.
+        let b = map_is (marked_by pages k (chain_in p pages k) block) (slice_get before block) m (sym (changed.marks block) ∙ is) in
+        subst (IsSo p pages (k + 1) block) b.2
+        (next block (is_among block (chain_in p pages k)) (stops_short pages block (chain_in p pages k)) refl refl b.0 (were.so block b.0 b.1));
+  }
+
+-- ---- the aim
+
+mark_last : (list : ℕ) (within short : Bool) (m : Mark) → IsBelow list m → (short ≡ true → within ≡ true) → is_last list (marked list within short m) ≡ within
+mark_last list within true m below both = eq-eqb list list refl ∙ sym (both refl)
+mark_last list within false m below both = last_is list within m below
+
+pub aim_is : (pages : List Content) (list : ℕ) (t : CentreTuple) (before after : List Mark) → length before ≡ length pages → AreBelow list before
+    → AreChanged (marked_by pages list (chain_from pages t.first)) before after → (block : ℕ)
+    → is_met list (slice_get after block) ≡ is_among block (chain_from pages t.first)
+aim_is pages list t before after long below changed block =
+    ap (is_met list) (changed.marks block) ∙ by_mark (slice_get before block) refl
+  where
+    chain : List ℕ
+    chain = chain_from pages t.first
+
+    ends_within : stops_short pages block (chain_from pages t.first) ≡ true → is_among block (chain_from pages t.first) ≡ true
+    ends_within short =
+        ends_among block (chain_from pages t.first)
+        (and_parts (ends_at block (chain_from pages t.first)) (is_some (next_of (slice_get pages block))) short).0
+
+    out : slice_get before block ≡ None → (w : Bool) → is_among block (chain_from pages t.first) ≡ w → false ≡ w
+    out none true within =
+        let c = entries_there (slice_get pages block) (among_chain pages (Some t) block within) in
+        let is = slice_get-get_or before block Nowhere (omega (arith, slice_get_within pages block c.0 c.1, long)) in
+        let both : None ≡ Some (get_or before block Nowhere) = sym none ∙ is in absurd cc
+    out none false within = refl
+
+    by_mark : (o : Option Mark) → slice_get before block ≡ o
+        → is_met list (option_map (marked_by pages list (chain_from pages t.first) block) o) ≡ is_among block (chain_from pages t.first)
+    by_mark None is = out is (is_among block (chain_from pages t.first)) refl
+    by_mark (Some m) is =
+        mark_last list (is_among block (chain_from pages t.first)) (stops_short pages block (chain_from pages t.first)) m (below block m is) ends_within
+
+-- ---- the lists one after the other
+
+-- the tuple of a list whose chain is followed
+pub record IsNextList (p : Params) (pages : List Content) (tuples : List CentreTuple) (list : ℕ) (t : CentreTuple) : Type 0 where
+  pub first : AreFirstTuples p pages tuples
+  pub low : list < length tuples
+  pub is : slice_get tuples list ≡ Some t
+
+module _ (p : Params) (pages : List Content) (tuples : List CentreTuple) (list : ℕ) (t : CentreTuple) (n : IsNextList p pages tuples list t) where
+  tuple_is : centre_in p pages list ≡ Some t
+  tuple_is = sym (n.first.there list n.low) ∙ n.is
+
+  pub aim_of : (aim : Bool) → aim ≡ has_aim pages (Some t) → has_aim pages (centre_in p pages list) ≡ aim
+  aim_of aim told = ap (has_aim pages) tuple_is ∙ sym told
+
+  pub list_more : (before after : List Mark) → AreMarked p pages list before → AreChanged (marked_by pages list (chain_from pages t.first)) before after
+      → AreMarked p pages (list + 1) after
+  list_more before after were changed =
+      one_list p pages list before after were
+      (subst (λ (chain : List ℕ). AreChanged (marked_by pages list chain) before after) (sym (ap (chain_of pages) tuple_is)) changed)
+
+  pub aims_more : ((k : ℕ) → k < list → has_aim pages (centre_in p pages k) ≡ true) → has_aim pages (centre_in p pages list) ≡ true
+      → (k : ℕ) → k < list + 1 → has_aim pages (centre_in p pages k) ≡ true
+  aims_more before here k low = by_list p pages list (λ (j : ℕ). has_aim pages (centre_in p pages j) ≡ true) k low (λ h. before k h) here
