@@ -1,3 +1,4 @@
 pub mod Torn
 pub mod Going
 pub mod Blocks
+pub mod OtherLogs

@@ -1,9 +1,10 @@
 //! Writing pages.
 
-ghost use Rattle.std.specs.Prelude.{◌≡◌, ◌*◌, ◌<◌, ◌≤◌, ℕ, length, All, OnOk, IfErr};
+ghost use Rattle.std.specs.Prelude.{◌≡◌, ◌*◌, ◌<◌, ◌≤◌, [], ℕ, length, All, OnOk, IfErr};
 ghost use Rattle.page_bytes.specs.Spelling.{spelling};
 ghost use Rattle.page_file.specs.Area.{IsRising, LeavesNoGap, with_pages, IsWritten as IsWrittenIn, IsTornImage as IsTornImageIn};
 ghost use Rattle.page_file.specs.Causes.{IsDiskFault};
+ghost use Rattle.page_log.specs.BothLogs.{Logs, LogsComeFrom};
 ghost use Rattle.vec_outside.specs.Causes.{HasCause};
 ghost use Rattle.vec_outside.specs.Disk.{IsDurable, Elapses, IsWritten, LeavesOnly, spliced};
 ghost use Rattle.vec_outside.specs.declared.disks.Area.TheVariants.{Pages};
@@ -36,6 +37,9 @@ pub fn write_pages<D: Disks>(
     // However it ends: nothing else is written, and no moment left anything else.
     ensures written { IsWrittenIn which.now (D.disk disks.old) (D.disk disks.new) }
     ensures moments { LeavesOnly (D.disk disks.old) (D.disk disks.new) (IsTornImageIn which.now (D.disk disks.old)) }
+
+    // Both logs go on as they stood.
+    ensures logs { (logs : Logs) → LogsComeFrom logs (D.disk disks.old) logs (D.disk disks.new) [] }
 
     ensures later { D.count disks.old ≤ D.count disks.new }
     ensures fault { IfErr result (IsDiskFault (D.count disks.old) (D.count disks.new)) }

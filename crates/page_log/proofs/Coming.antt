@@ -12,7 +12,7 @@ use Rattle.page_log.proofs.Fronts.{read_none}
 use Rattle.page_log.proofs.Holding.{holds_between, body_length}
 use Rattle.page_log.proofs.OtherAreas.{keeps_reading, keeps_on}
 
-take_parts : (a b : ℕ) (xs : List Event) → take (a + b) xs ≡ take a xs ++ take b (drop a xs)
+pub take_parts : (a b : ℕ) (xs : List Event) → take (a + b) xs ≡ take a xs ++ take b (drop a xs)
 take_parts zero b xs = let e : zero + b ≡ b = omega arith in ap (λ (n : ℕ). take n xs) e
 take_parts (suc a) zero [] = let e : suc a + 0 ≡ suc a = omega arith in ap (λ (n : ℕ). take n []) e
 take_parts (suc a) (suc b) [] = let e : suc a + suc b ≡ suc (a + suc b) = omega arith in ap (λ (n : ℕ). take n []) e
@@ -34,7 +34,7 @@ settled_parts a b settled all more le =
     ∙ ap (λ (l : List Event). settled ++ (take a (all ++ more) ++ take b l)) (sym (drop-append-le a all more le))
     ∙ ap (λ (l : List Event). settled ++ l) (sym (take_parts a b (all ++ more)))
 
-between_parts : (base : List ℕ) (a : ℕ) (settled all more : List Event) (bytes : List ℕ) → a ≤ length all → IsBetween base (settled ++ take a all) (drop a all ++ more) bytes → IsBetween base settled (all ++ more) bytes
+pub between_parts : (base : List ℕ) (a : ℕ) (settled all more : List Event) (bytes : List ℕ) → a ≤ length all → IsBetween base (settled ++ take a all) (drop a all ++ more) bytes → IsBetween base settled (all ++ more) bytes
 between_parts base a settled all more bytes le between = (
   a + between.0,
   omega (arith, between.1, length-append (drop a all) more, length-drop a all, length-append all more, le),

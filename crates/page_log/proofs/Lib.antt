@@ -13,3 +13,11 @@ pub mod BatchBytes
 pub mod LogSteps
 pub mod Opened
 pub mod OtherAreas
+pub mod Keeping
+pub mod Shutting
+pub mod NewBases
+pub mod Changing
+pub mod BothAreas
+pub mod OneReading
+pub mod ImageWrites
+pub mod HeldEpochs

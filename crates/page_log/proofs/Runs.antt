@@ -28,7 +28,7 @@ nothing_more at bytes placed rest None none front = none_begins_nothing placed.1
 nothing_more at bytes placed rest (Some place) none front = none.2 placed.1 rest front
 
 -- what stands in bytes is told in one way
-are_unique : (at : ℕ) (bytes : List ℕ) (xs ys : List Placed) (bad bad' : Option ℕ) → AreEvents at bytes xs bad → AreEvents at bytes ys bad' → xs ≡ ys
+pub are_unique : (at : ℕ) (bytes : List ℕ) (xs ys : List Placed) (bad bad' : Option ℕ) → AreEvents at bytes xs bad → AreEvents at bytes ys bad' → xs ≡ ys
 are_unique at bytes [] [] bad bad' first second = refl
 are_unique at bytes [] (y ∷ ys) bad bad' first second = absurd (nothing_more at bytes y second.1.0 bad first second.1.1)
 are_unique at bytes (x ∷ xs) [] bad bad' first second = absurd (nothing_more at bytes x first.1.0 bad' second first.1.1)
@@ -40,13 +40,13 @@ are_unique at bytes (x ∷ xs) (y ∷ ys) bad bad' first second =
     (are_unique (at + length (spelling x.1)) first.1.0 xs ys bad bad' first.1.2
     (subst (λ e. AreEvents (at + length (spelling e)) first.1.0 ys bad') (sym same.0) (subst (λ rest. AreEvents (at + length (spelling y.1)) rest ys bad') (sym same.1) second.1.2)))
 
-one_batch : (area : List ℕ) (at : ℕ) (a b : List ℕ) → IsBatch area at a → IsBatch area at b → a ≡ b
+pub one_batch : (area : List ℕ) (at : ℕ) (a b : List ℕ) → IsBatch area at a → IsBatch area at b → a ≡ b
 one_batch area at a b first second =
     let size : length a ≡ length b = one_front (take 5 (drop at area)) (length a) (length b) (front_of area at a first) (front_of area at b second) in
     let behind : a ++ first.rest ≡ b ++ second.rest = ap (drop 5) (sym first.same ∙ second.same) in
     sym (take_at a first.rest (length a) refl) ∙ ap (take (length a)) behind ∙ take_at b second.rest (length a) (sym size)
 
-open_batch : (area : List ℕ) (at : ℕ) (bytes : List ℕ) → IsBatch area at bytes → IsOpenAt area at
+pub open_batch : (area : List ℕ) (at : ℕ) (bytes : List ℕ) → IsBatch area at bytes → IsOpenAt area at
 open_batch area at bytes batch = (to_le_bytes w32 (length bytes) ++ (bytes ++ batch.rest), batch.same)
 
 refused_over : (area : List ℕ) (at used : ℕ) (bytes : List ℕ) (events : List Placed) (bad : Option ℕ) → IsBatch area at bytes → AreEvents (at + 5) bytes events bad

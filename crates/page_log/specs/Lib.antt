@@ -8,3 +8,7 @@ pub mod Going
 pub mod Parts
 pub mod Bodies
 pub mod LogCauses
+pub mod NewEpochs
+pub mod Aside
+pub mod BothLogs
+pub mod Writing

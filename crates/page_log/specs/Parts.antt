@@ -1,9 +1,8 @@
 -- What is not settled of a log and of a batch that was taken out of it.
-use Rattle.std.specs.Prelude.{◌≡◌, ℕ, ◌+◌, ◌≤◌, ◌%◌, ◌==◌, if◌then◌else◌, Bool, true, false, [], ◌++◌, length, drop, Option, Some, None}
+use Rattle.std.specs.Prelude.{◌≡◌, ℕ, ◌+◌, ◌≤◌, Bool, true, false, [], ◌++◌, length, drop, Option, Some, None}
 use Rattle.vec_event.specs.Spelling.{spelling}
 use Rattle.vec_history.specs.declared.event.Event.{Event}
 use Rattle.vec_outside.specs.declared.disks.Area.{Area}
-use Rattle.vec_outside.specs.declared.disks.Area.TheVariants.{Log0, Log1}
 use Rattle.page_log.specs.Going.{Newer, Unsettled, body_of, payload}
 use Rattle.page_log.specs.declared.pending.Pending.{Pending}
 use Rattle.page_log.specs.declared.log.Log.{Log}
@@ -87,10 +86,6 @@ pub record IsOut (log : Log) (pending : Pending) : Type 0 where
   pub end : behind pending ≡ log.end
   pub share : length log.fresh.items + log.count + length pending.bytes.items ≤ log.used
   pub counted : log.count + pending.events ≤ log.used
-
--- the area of an epoch
-abbrev pub area_of : ℕ → Area
-area_of epoch = if epoch % 2 == 1 then Log0 else Log1
 
 -- a log with nothing to be written
 abbrev pub at_end : Area → ℕ → ℕ → Unsettled

@@ -3,6 +3,10 @@
 
 mod batches;
 mod bodies;
+mod closing;
+mod epoch_law;
+mod epoch_writing;
+mod epochs;
 mod events;
 mod finding;
 mod flushing;
@@ -18,6 +22,8 @@ mod opening;
 mod opening_fault;
 mod pending;
 
+pub use epoch_law::{law_epochs, law_first_epoch, law_logs};
+pub use epochs::{open_epoch, write_epoch};
 pub use flushing::flush_pending;
 pub use going_law::{law_coming, law_going};
 pub use head::Head;
@@ -27,6 +33,8 @@ pub use opening::{ReadLog, read_all};
 pub use opening_fault::OpenFault;
 pub use pending::Pending;
 
+#[cfg(test)]
+mod epoch_tests;
 #[cfg(test)]
 mod log_tests;
 #[cfg(test)]

@@ -12,6 +12,9 @@ pub const FORM_2: u64 = 0x3253_5449_4243_4556;
 /// The bytes of a header, whose last one is the epoch's seal.
 pub const HEAD: usize = 40;
 
+/// The place of an epoch's seal, the last byte of its header.
+pub const SEAL: usize = 39;
+
 /// The bytes of a base image: a block's number and its page.
 pub const IMAGE: usize = 8_196;
 

@@ -39,9 +39,11 @@ pub struct Log {
 impl Log {
     ghost use Rattle.std.specs.Prelude.{◌<◌, ◌++◌, ◌∷◌, [], ℕ, List, Some, None, max, drop, true, false, OnOk, OnErr, IfOk, IfErr};
     ghost use Rattle.vec_event.specs.Spelling.{spelling, IsTyped, IsWritable};
+    ghost use Rattle.page_log.specs.BothLogs.{LogsComeFrom, alone};
     ghost use Rattle.page_log.specs.Going.{ComesFrom, SettlesAll};
     ghost use Rattle.page_log.specs.LogCauses.{IsMemory, IsDiskFault, IsAppendFault};
-    ghost use Rattle.page_log.specs.Parts.{area_of, at_end, unsettled, newer_of, with_event, out, taken, behind, ReachesTo, IsAllOut, IsOut};
+    ghost use Rattle.page_log.specs.Opening.{area_of};
+    ghost use Rattle.page_log.specs.Parts.{at_end, unsettled, newer_of, with_event, out, taken, behind, ReachesTo, IsAllOut, IsOut};
 
     /// The log of an epoch, in its area, which ends at a place and whose events take so much of the room. The area of an odd
     /// epoch is the first.
@@ -225,6 +227,7 @@ impl Log {
     pub fn flush<D: Disks>(&mut self, disks: &mut D) -> Result<(), LogFault>
         requires reach { D.told → ReachesTo (unsettled self.old) (length ((D.disk disks.old).seen (unsettled self.old).area)) }
         ensures from { ComesFrom (unsettled self.old) (D.disk disks.old) (unsettled self.new) (D.disk disks.new) [] }
+        ensures logs { LogsComeFrom (alone (unsettled self.old)) (D.disk disks.old) (alone (unsettled self.new)) (D.disk disks.new) [] }
         ensures all { OnOk result (SettlesAll (unsettled self.old) (D.disk disks.old) (unsettled self.new) (D.disk disks.new)) }
         ensures none { OnOk result (IsAllOut (unsettled self.new)) }
         ensures reach { D.told → ReachesTo (unsettled self.new) (length ((D.disk disks.new).seen (unsettled self.new).area)) }

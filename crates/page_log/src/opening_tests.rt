@@ -20,7 +20,7 @@ const META: &[u8] = &[
 ];
 
 /// A page with that tuple alone.
-fn meta_page() -> Page {
+pub fn meta_page() -> Page {
     let mut page = Page::fresh(PageKind::Meta);
     let _off = page.add_item(META);
     page
@@ -51,7 +51,7 @@ fn log_of(
 }
 
 /// The worked log with a byte changed and of a length; it has 8,302 bytes.
-fn worked(alloc: Global, place: usize, byte: u8, len: usize) -> Result<Vec<u8>, AllocError> {
+pub fn worked(alloc: Global, place: usize, byte: u8, len: usize) -> Result<Vec<u8>, AllocError> {
     let batch = area(alloc, 65, 0, 66)?;
     log_of(alloc, &[0], &batch, place, byte, len)
 }

@@ -183,6 +183,43 @@ fn batches(rt: HostRuntime) -> Result<(), Outage> {
     Ok(())
 }
 
+/// A batch of so many bytes of events, each a Hint of five bytes.
+fn many_hints(alloc: Global, events: u32) -> Result<Vec<u8>, AllocError> {
+    let mut log = Vec::new(alloc);
+    log.push(0xA5)?;
+    log.extend_from_slice(&events.wrapping_mul(5).to_le_bytes())?;
+    for _ in 0..events {
+        log.extend_from_slice(&[8, 1, 0, 0, 0])?;
+    }
+    Ok(log)
+}
+
+/// A batch of one event that drops the offsets from 1 to so many.
+fn long_drop(alloc: Global, offsets: u16) -> Result<Vec<u8>, AllocError> {
+    let mut log = Vec::new(alloc);
+    log.push(0xA5)?;
+    log.extend_from_slice(&(7 + 2 * u32::from(offsets)).to_le_bytes())?;
+    log.extend_from_slice(&[11, 1, 0, 0, 0])?;
+    log.extend_from_slice(&offsets.to_le_bytes())?;
+    for offset in 0..offsets {
+        log.extend_from_slice(&offset.wrapping_add(1).to_le_bytes())?;
+    }
+    Ok(log)
+}
+
+/// A batch of 65,536 bytes or more is read in pieces. An event across two of them is read with the second, and one that is
+/// longer than a piece in a longer piece.
+#[test]
+fn batches_of_more_than_a_piece(rt: HostRuntime) -> Result<(), Outage> {
+    let run = read_log(rt.alloc(), many_hints(rt.alloc(), 13_108)?, &[])?;
+    assert_eq!(rt; run.events.len(), 13_108);
+    assert!(rt; run.end == 65_545 && run.used == 131_080 && run.bad.is_none());
+    let run = read_log(rt.alloc(), long_drop(rt.alloc(), 40_000)?, &[])?;
+    assert_eq!(rt; run.events.len(), 1);
+    assert!(rt; run.end == 80_012 && run.used == 80_012 && run.bad.is_none());
+    Ok(())
+}
+
 /// The length of the area, the front of the batch, its events, and the seal behind it: four calls.
 #[test]
 fn each_read_fails(rt: HostRuntime) -> Result<(), Outage> {
