@@ -1,6 +1,6 @@
 //! The slots that a step tells.
 
-ghost use Rattle.std.specs.Prelude.{◌≡◌, ◌≤◌, [], length, IfOk};
+ghost use Rattle.std.specs.Prelude.{◌≡◌, ◌<◌, ◌≤◌, [], ◌∷◌, ◌++◌, length, IfOk};
 ghost use Rattle.index_sizes.specs.declared.limits.TheConstants.{MOST_SLOTS as MostSlots};
 
 use index_sizes::MOST_SLOTS;
@@ -49,5 +49,20 @@ impl Slots {
     {
         self.places.clear();
         let _ = self.places.extend_from_slice(places);
+    }
+
+    /// Takes all places out.
+    pub fn clear(&mut self)
+        ensures { self.new ≡ [] }
+    {
+        self.places.clear();
+    }
+
+    /// Puts one more place last. It needs no memory.
+    pub fn add(&mut self, place: Option<Tid>)
+        requires { length self.old < MostSlots }
+        ensures { self.new ≡ self.old ++ place ∷ [] }
+    {
+        let _ = self.places.push(place);
     }
 }
