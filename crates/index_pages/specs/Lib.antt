@@ -1,0 +1,2 @@
+-- Pages of an index of either method.
+pub mod Standing

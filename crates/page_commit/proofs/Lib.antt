@@ -1,0 +1,4 @@
+pub mod Blocks
+pub mod Redone
+pub mod Extended
+pub mod Whole

@@ -1,0 +1,2 @@
+-- Pages of a set after an event.
+pub mod Committing
