@@ -46,3 +46,5 @@ pub mod PageShape
 pub mod OtherFormat
 pub mod FollowLaws
 pub mod ReusedPlace
+pub mod RedoneThere
+pub mod ReplayedOnce

@@ -60,7 +60,7 @@ page_set c off old x page is long item = record {
   room = omega (arith, page.room, taken_set c.items (off - 1) old x (place_of c.items off old is) long, length-set c.items (off - 1) x);
 }
 
-page_more : (c d : Content) (x : List ℕ) → IsPage c → IsItem x → added x c ≡ Some d → IsPage d
+pub page_more : (c d : Content) (x : List ℕ) → IsPage c → IsItem x → added x c ≡ Some d → IsPage d
 page_more c d x page item is =
     let d_is = when_is (nat_le (round8 (length x) + 4) (free_of c)) (record c { items = c.items ++ x ∷ [] }) d is in
     let fits : round8 (length x) + 4 ≤ 8184 - taken c.items - (24 + 4 * length c.items) = leb-true (round8 (length x) + 4) (free_of c) d_is.0 in

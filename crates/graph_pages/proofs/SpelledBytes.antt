@@ -26,10 +26,10 @@ AllBytes x = All (λ b. b < 256) x
 none : AllBytes []
 none = All-nil (λ b. b < 256)
 
-one : (b : ℕ) (x : List ℕ) → b < 256 → AllBytes x → AllBytes (b ∷ x)
+pub one : (b : ℕ) (x : List ℕ) → b < 256 → AllBytes x → AllBytes (b ∷ x)
 one b x low rest = All-cons (λ b. b < 256) b x low rest
 
-both : (x y : List ℕ) → AllBytes x → AllBytes y → AllBytes (x ++ y)
+pub both : (x y : List ℕ) → AllBytes x → AllBytes y → AllBytes (x ++ y)
 both x y a b = All-append (λ b. b < 256) x y a b
 
 two_bytes : (a b : ℕ) → a < 256 → b < 256 → AllBytes (a ∷ b ∷ [])
@@ -42,13 +42,13 @@ byte_low : (k n : ℕ) → byte_at k n < 256
 byte_low zero n = omega arith
 byte_low (suc k) n = omega arith
 
-half : (n : ℕ) → AllBytes (to_le_bytes w16 n)
+pub half : (n : ℕ) → AllBytes (to_le_bytes w16 n)
 half n = two_bytes (n % 256) (byte_at 1 n) (omega arith) (byte_low 1 n)
 
-word : (n : ℕ) → AllBytes (to_le_bytes w32 n)
+pub word : (n : ℕ) → AllBytes (to_le_bytes w32 n)
 word n = four_bytes (n % 256) (byte_at 1 n) (byte_at 2 n) (byte_at 3 n) (omega arith) (byte_low 1 n) (byte_low 2 n) (byte_low 3 n)
 
-pointer : (block off : ℕ) → AllBytes (pointer_bytes block off)
+pub pointer : (block off : ℕ) → AllBytes (pointer_bytes block off)
 unfolding pointer_bytes
 pointer block off =
     both (to_le_bytes w16 (block / 65536)) (to_le_bytes w16 (block % 65536) ++ to_le_bytes w16 off) (half (block / 65536))
@@ -68,7 +68,7 @@ rows zero ids = none
 rows (suc n) [] = both (heap_id_option_bytes None) (rows_bytes n []) (pointer no_block 0) (rows n [])
 rows (suc n) (id ∷ ids) = both (heap_id_bytes id) (rows_bytes n ids) (pointer id.block id.off) (rows n ids)
 
-value : (bits : List Bool) → AllBytes (bits_bytes bits)
+pub value : (bits : List Bool) → AllBytes (bits_bytes bits)
 value bits =
     both (to_le_bytes w32 (length_word (length bits))) (to_le_bytes w32 (length bits) ++ packed bits) (word (length_word (length bits)))
     (both (to_le_bytes w32 (length bits)) (packed bits) (word (length bits)) (packed-below bits))

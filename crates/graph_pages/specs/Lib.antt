@@ -10,3 +10,4 @@ pub mod Choosing
 pub mod Decoding
 pub mod FollowTests
 pub mod Filling
+pub mod Replaying

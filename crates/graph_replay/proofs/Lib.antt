@@ -1,4 +1,3 @@
-pub mod RedoneThere
 pub mod Replays
 pub mod Placed
 pub mod AllowedFits

@@ -11,14 +11,15 @@ use Rattle.vec_graph.specs.Effect.{effect, joined, linked, relisted, dropped, ma
 use Rattle.vec_graph.proofs.Remaining.{params_changed}
 use Rattle.graph_pages.specs.Standing.{Stands}
 use Rattle.graph_pages.specs.Effects.{format_in}
-use Rattle.graph_pages.specs.Growing.{extended, AreAllRedone}
+use Rattle.graph_pages.specs.Growing.{AreAllRedone}
 use Rattle.graph_pages.specs.Following.{Follows}
 use Rattle.graph_pages.proofs.RedoEffect.{redo_effect}
 use Rattle.graph_pages.proofs.BlocksKept.{blocks_kept}
-use Rattle.graph_pages.proofs.RedoneOnce.{redone_once}
 use Rattle.graph_pages.proofs.PagesAfter.{pages_after, format_after}
-use Rattle.graph_replay.specs.Replaying.{next_number, effects, Replayed, FollowInTurn}
-use Rattle.graph_replay.proofs.RedoneThere.{redone_there}
+use Rattle.graph_pages.specs.Replaying.{next_number, Replayed}
+use Rattle.graph_replay.specs.Replaying.{effects, FollowInTurn}
+use Rattle.graph_pages.proofs.RedoneThere.{redone_there}
+use Rattle.graph_pages.proofs.ReplayedOnce.{replay_once}
 
 -- no event changes the parameters
 pub effect_params : (wrap : ℕ) (e : Event) (g : Graph) → (effect wrap e g).params ≡ g.params
@@ -71,14 +72,6 @@ replay_there wrap number (e ∷ es) pages g format low index follow =
     let now = one_event pages mid.0 g format e wrap number low index follow.0 mid.1 in
     let rest = replay_there wrap (next_number number) es mid.0 (effect wrap e g) format (next_low number) now (follow.2 mid.0 mid.1) in
     (rest.0, (mid.0, mid.1, subst (λ (q : Params). Replayed q wrap (next_number number) es mid.0 rest.0) (effect_params wrap e g) rest.1), rest.2)
-
-pub replay_once : (params : Params) (wrap number : ℕ) (events : List Event) (pages after again : List Content)
-    → Replayed params wrap number events pages after → Replayed params wrap number events pages again → after ≡ again
-replay_once params wrap number [] pages after again f h = f ∙ sym h
-replay_once params wrap number (e ∷ es) pages after again f h =
-    let same = redone_once params wrap number e (extended e pages) f.0 h.0 f.1 h.1 in
-    replay_once params wrap (next_number number) es h.0 after again
-    (subst (λ (m : List Content). Replayed params wrap (next_number number) es m after) same f.2) h.2
 
 -- whatever the replay leaves is that
 pub replay_effect : (wrap number : ℕ) (events : List Event) (pages after : List Content) (g : Graph) (format : Option ℕ) → number < 2 ^ 64

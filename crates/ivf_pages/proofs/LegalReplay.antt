@@ -13,12 +13,12 @@ use Rattle.ivf_graph.specs.Effect.{effect, after as after_acts}
 use Rattle.ivf_graph.specs.Legal.{IsAllowed}
 use Rattle.ivf_graph.proofs.Judging.{after_more}
 use Rattle.ivf_pages.specs.Standing.{Stands}
-use Rattle.ivf_pages.specs.Replaying.{next_number, logged, Replayed}
+use Rattle.graph_pages.specs.Replaying.{next_number, logged, Replayed}
 use Rattle.ivf_pages.proofs.RedoEffect.{redo_effect}
 use Rattle.ivf_pages.proofs.BlocksKept.{blocks_kept}
 use Rattle.ivf_pages.proofs.PagesKept.{pages_kept}
 use Rattle.ivf_pages.proofs.AllowedFits.{allowed_fits}
-use Rattle.ivf_pages.proofs.RedoneThere.{redone_there}
+use Rattle.graph_pages.proofs.RedoneThere.{redone_there}
 use Rattle.ivf_pages.proofs.Replays.{passing_stays}
 
 module _ (p : Params) (wrap : ℕ) (base : IvfGraph) where
@@ -40,7 +40,7 @@ module _ (p : Params) (wrap : ℕ) (base : IvfGraph) where
           → (after : List Content) × Replayed p wrap number (cond (is_lasting a.event) (a.event ∷ logged acts) (logged acts)) pages after
       by_test true is goes =
           let fits = allowed_fits p pages (after_acts base before) before a.desk all s a.event may is in
-          let mid = redone_there p wrap number a.event pages fits.1 in
+          let mid = redone_there pages p a.event wrap number fits.1 in
           let rest = goes (next_number number) mid.0
           (blocks_kept pages (after_acts base before) few a.event p wrap number mid.0 fits.0 mid.1)
           (pages_kept p pages mid.0 a.event wrap number mid.1 (after_acts base before) all s fits.0 low)

@@ -20,7 +20,6 @@ pub mod ListBytes
 pub mod PagesKept
 pub mod Replays
 pub mod SmallIndex
-pub mod RedoneThere
 pub mod LegalReplay
 pub mod RootKept
 pub mod MarkChanges

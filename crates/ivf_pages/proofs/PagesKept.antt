@@ -1,13 +1,11 @@
 -- Redo of an event that follows leaves pages that have bytes, and gives each page that it touches its number.
-use Rattle.std.proofs.Common.{◌≡◌, ℕ, zero, suc, ◌+◌, ◌-◌, ◌*◌, ◌^◌, ◌<◌, ◌≤◌, ◌&&◌, ◌==◌, not, Bool, true, false, List, [], ◌∷◌, ◌++◌, length, replicate, get_or, Some, None, refl, sym, ap, subst, ◌∙◌, arith, inl, inr}
-use Rattle.std.specs.Prelude.{slice_get, slice_set, Contains, nat_le, nat_lt, if◌then◌else◌}
+use Rattle.std.proofs.Common.{◌≡◌, ℕ, ◌+◌, ◌-◌, ◌*◌, ◌^◌, ◌<◌, ◌≤◌, ◌&&◌, ◌==◌, not, Bool, true, false, List, [], ◌∷◌, length, replicate, get_or, Some, None, refl, sym, ap, subst, ◌∙◌, arith, inl, inr}
+use Rattle.std.specs.Prelude.{slice_get, Contains, nat_lt, if◌then◌else◌}
 use Rattle.std.specs.List.{All, list_any}
 use Rattle.std.specs.Option.{option_map, option_and_then}
-use Rattle.std.proofs.lemmas.Bool.{and_parts, leb-true, ltb-true}
-use Rattle.std.proofs.lemmas.List.{length-append, length-set}
-use Rattle.std.proofs.lemmas.List.Elements.{All-set, All-push, All-cons, All-nil, All-append, All-replicate, All-head, All-tail}
+use Rattle.std.proofs.lemmas.Bool.{and_parts, ltb-true}
+use Rattle.std.proofs.lemmas.List.Elements.{All-cons, All-nil, All-append, All-replicate, All-head, All-tail}
 use Rattle.std.proofs.lemmas.Option.{slice_get_within, slice_get-get_or}
-use Rattle.byte_fields.proofs.EachField.{some_is}
 use Rattle.vec_names.specs.declared.heap_id.HeapId.{HeapId}
 use Rattle.vec_names.specs.declared.params.Params.{Params}
 use Rattle.vec_names.specs.Params.{IsInRange}
@@ -15,9 +13,8 @@ use Rattle.vec_history.specs.declared.event.Event.{Event}
 use Rattle.vec_history.specs.declared.event.Event.TheVariants.{Put, Join, Link, Relist, Drop, Mark, Entry, Hint, IvfAdd, IvfGrow, IvfDrop, IvfHint, Gate, Ungate, Phase, VacuumEnd, Cancel, Settled, DiskFaulted}
 use Rattle.page_bytes.specs.declared.kind.PageKind.{PageKind}
 use Rattle.page_bytes.specs.declared.kind.PageKind.TheVariants.{Meta, Hnsw, IvfLists, IvfEntries}
-use Rattle.page_bytes.specs.Content.{Content, IsPage, IsItem, IsNext, item_at, round8, taken, free_of, others}
-use Rattle.page_bytes.proofs.Placing.{taken-nil, taken-cons, taken-append}
-use Rattle.page_bytes.proofs.Changes.{taken-one}
+use Rattle.page_bytes.specs.Content.{Content, IsPage, IsItem, IsNext, item_at, taken, others}
+use Rattle.page_bytes.proofs.Placing.{taken-nil, taken-cons}
 use Rattle.vec_tuples.specs.Spelling.{centre_with, centre_bytes, entry_bytes, row_with}
 use Rattle.vec_tuples.specs.Reading.{centre}
 use Rattle.vec_tuples.proofs.RowLaws.{centre_field}
@@ -29,46 +26,13 @@ use Rattle.page_redo.proofs.ItemLaws.{whole_spelled}
 use Rattle.graph_pages.specs.Growing.{fresh_page, new_kind, blocks_after, extended, AreAllRedone}
 use Rattle.graph_pages.proofs.Given.{then_is, map_is, if_is, when_is, item_bytes, got_from_all}
 use Rattle.graph_pages.proofs.RedoneOnce.{is_in}
+use Rattle.graph_pages.proofs.PagesKept.{page_set, page_more}
 use Rattle.ivf_pages.specs.Standing.{Stands}
 use Rattle.ivf_pages.specs.Following.{Follows}
 use Rattle.ivf_pages.proofs.Root.{in_range}
 use Rattle.ivf_pages.proofs.ListBytes.{entry_item, centre_item, length-centre_bytes}
 
--- ---- a page with another item, one more, or some less
-
-taken_set : (items : List (List ℕ)) (i : ℕ) (old x : List ℕ) → slice_get items i ≡ Some old → length old ≡ length x
-    → taken (slice_set items i x) ≡ taken items
-taken_set [] i old x is long = absurd cc
-taken_set (y ∷ ys) zero old x is long =
-    let same : length x ≡ length y = sym long ∙ ap (λ (l : List ℕ). length l) (sym (some_is y old is)) in
-    taken-cons x ys ∙ ap (λ n. round8 n + taken ys) same ∙ sym (taken-cons y ys)
-taken_set (y ∷ ys) (suc i) old x is long =
-    taken-cons y (slice_set ys i x) ∙ ap (λ n. round8 (length y) + n) (taken_set ys i old x is long) ∙ sym (taken-cons y ys)
-
-place_of : (items : List (List ℕ)) (off : ℕ) (old : List ℕ) → item_at items off ≡ Some old → slice_get items (off - 1) ≡ Some old
-place_of items zero old is = absurd cc
-place_of items (suc i) old is = ap (slice_get items) (let back : suc i - 1 ≡ i = omega arith in back) ∙ is
-
-page_set : (c : Content) (off : ℕ) (old x : List ℕ) → IsPage c → item_at c.items off ≡ Some old → length old ≡ length x → IsItem x
-    → IsPage (with_item c off x)
-page_set c off old x page is long item = record {
-  next = page.next;
-  number = page.number;
-  items = All-set IsItem c.items (off - 1) x item page.items;
-  room = omega (arith, page.room, taken_set c.items (off - 1) old x (place_of c.items off old is) long, length-set c.items (off - 1) x);
-}
-
-page_more : (c d : Content) (x : List ℕ) → IsPage c → IsItem x → added x c ≡ Some d → IsPage d
-page_more c d x page item is =
-    let d_is = when_is (nat_le (round8 (length x) + 4) (free_of c)) (record c { items = c.items ++ x ∷ [] }) d is in
-    let fits : round8 (length x) + 4 ≤ 8184 - taken c.items - (24 + 4 * length c.items) = leb-true (round8 (length x) + 4) (free_of c) d_is.0 in
-    let more : IsPage (record c { items = c.items ++ x ∷ [] }) = record {
-      next = page.next;
-      number = page.number;
-      items = All-push IsItem c.items x page.items item;
-      room = omega (arith, page.room, fits, taken-append c.items (x ∷ []), taken-one x, length-append c.items (x ∷ []));
-    } in
-    subst IsPage d_is.1 more
+-- ---- a page with some items less
 
 module _ (gone : List ℕ) where
   -- some items take no more than all

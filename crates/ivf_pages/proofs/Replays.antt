@@ -15,11 +15,10 @@ use Rattle.ivf_graph.specs.Effect.{effect, after as after_acts}
 use Rattle.ivf_graph.specs.Rules.{IsEventAllowed}
 use Rattle.ivf_graph.specs.Legal.{IsAllowed}
 use Rattle.ivf_graph.proofs.Judging.{after_more}
-use Rattle.graph_pages.specs.Growing.{extended}
-use Rattle.graph_pages.proofs.RedoneOnce.{redone_once}
 use Rattle.ivf_pages.specs.Standing.{Stands}
 use Rattle.ivf_pages.specs.Following.{Follows}
-use Rattle.ivf_pages.specs.Replaying.{next_number, effects, logged, Replayed, FollowInTurn}
+use Rattle.graph_pages.specs.Replaying.{next_number, logged, Replayed}
+use Rattle.ivf_pages.specs.Replaying.{effects, FollowInTurn}
 use Rattle.ivf_pages.proofs.RedoEffect.{redo_effect}
 use Rattle.ivf_pages.proofs.BlocksKept.{blocks_kept}
 use Rattle.ivf_pages.proofs.PagesKept.{pages_kept}
@@ -37,14 +36,6 @@ module _ (p : Params) (wrap : ℕ) where
       (pages_kept p pages mid e wrap number redone g all s follows low)
       (redo_effect p pages mid g wrap number few all s e follows redone)
       (mod_below (number + 1) (2 ^ 64) (omega arith)) rest more
-
-  -- there is just one such list of pages
-  pub replay_once : (events : List Event) (number : ℕ) (pages after again : List Content) → Replayed p wrap number events pages after
-      → Replayed p wrap number events pages again → after ≡ again
-  replay_once [] number pages after again a b = a ∙ sym b
-  replay_once (e ∷ es) number pages after again (mid, redone, more) (other, redone_too, more_too) =
-      let same = redone_once p wrap number e (extended e pages) other mid redone_too redone in
-      replay_once es (next_number number) mid after again more (subst (λ (z : List Content). Replayed p wrap (next_number number) es z again) same more_too)
 
 -- ---- legal histories
 
