@@ -57,6 +57,16 @@ pub record IsEpochOf (held : Held) (images : List (ℕ × Content)) (epoch : Epo
   pub events : map (λ placed. placed.1) epoch.events ≡ held.settled ++ take count held.pending
   pub fine : epoch.bad ≡ None
 
+-- what is held where an epoch was read
+abbrev pub held_of : Image → Epoch → Held
+held_of image epoch = record {
+  epoch = epoch.head.epoch;
+  base = take (images_end epoch.head) (image epoch.area);
+  settled = map (λ placed. placed.1) epoch.events;
+  pending = [];
+  next = None;
+}
+
 -- an epoch that has just begun
 abbrev pub begun : NewEpoch → Held
 begun new = record { epoch = new.epoch; base = base_of new OPEN; settled = []; pending = []; next = None }
