@@ -99,6 +99,10 @@ changed held (Begun new) = begun new
 abbrev pub settled_more : ℕ → Held → Held
 settled_more count held = record held { settled = held.settled ++ take count held.pending; pending = drop count held.pending }
 
+-- all of it is
+abbrev pub with_all_settled : Held → Held
+with_all_settled held = record held { settled = held.settled ++ held.pending; pending = [] }
+
 -- What the image reads as, where these changes are made one after the other, and at any moment between: one of the epochs that
 -- counted, with no event that was settled before left out.
 abbrev pub MayRead : Held → List Change → Image → Type 0
