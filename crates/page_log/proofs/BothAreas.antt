@@ -8,9 +8,9 @@ use Rattle.vec_outside.specs.declared.disks.Area.TheVariants.{Pages, Log0, Log1}
 use Rattle.vec_outside.specs.Disk.{Disk, Image, IsImage, LeavesOnly}
 use Rattle.vec_outside.proofs.Moments.{weakened, started}
 use Rattle.page_log.specs.Aside.{AreAll, IsAside, IsBelow, IsUnderSome, IsUnderShut, Keeps}
-use Rattle.page_log.specs.BothLogs.{other_log, Held, IsNamedBase, Reads, ReadsNext, ReadsAny, begun, Ready, Begun, added, changed, settled_more, MayRead, Logs, alone, before_next, begun_log, IsNext, AreBeside, IsStanding, LogsGoOn, LogsComeFrom}
+use Rattle.page_log.specs.BothLogs.{other_log, Held, IsNamedBase, Reads, ReadsNext, ReadsAny, begun, Ready, Begun, added, changed, settled_more, with_all_settled, MayRead, Logs, alone, before_next, begun_log, IsNext, AreBeside, IsStanding, LogsGoOn, LogsComeFrom}
 use Rattle.page_log.specs.Epoch.{head_in}
-use Rattle.page_log.specs.Going.{Unsettled, IsBetween, IsGoing, KeepsOthers, ComesFrom}
+use Rattle.page_log.specs.Going.{Unsettled, IsBetween, IsGoing, KeepsOthers, ComesFrom, SettlesAll}
 use Rattle.page_log.specs.NewEpochs.{NewEpoch, IsNewEpoch, base_of, IsUnder}
 use Rattle.page_log.specs.Opening.{ReadsAs, area_of, parity_of, front_at, picked, chosen}
 use Rattle.page_log.specs.declared.front.Front.{Front}
@@ -260,6 +260,19 @@ log_comes log after old new events comes h stands =
           (λ image is. added_may events h image (reads_any all None image stands.next stands.named
           (subst (λ (a : Area). IsBetween h.base h.settled (h.pending ++ events) (image a)) here is.0)
           (stands.beside (image (other_log (area_of h.epoch))) (is.1 (other_log (area_of h.epoch)) apart))));
+    }
+
+-- once it has settled all
+pub settled_stands : (log after : Unsettled) (old new : Disk) (h : Held) → ComesFrom log old after new [] → SettlesAll log old after new → IsStanding (alone log) old h
+    → IsStanding (alone after) new (with_all_settled h)
+settled_stands log after old new h comes settles stands =
+    let apart : other_log (area_of h.epoch) ≢ log.area =
+    (λ is. other_apart (area_of h.epoch) (is_log h.epoch) (is ∙ stands.area)) in record {
+      area = comes.area ∙ stands.area;
+      next = stands.next;
+      named = stands.named;
+      going = settles h.base h.settled h.pending stands.going;
+      beside = λ bytes left. stands.beside bytes (comes.others.leaves (other_log (area_of h.epoch)) bytes apart left);
     }
 
 -- an epoch that is written into the other area

@@ -21,3 +21,4 @@ pub mod BothAreas
 pub mod OneReading
 pub mod ImageWrites
 pub mod HeldEpochs
+pub mod Reopened

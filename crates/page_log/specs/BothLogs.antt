@@ -57,6 +57,16 @@ pub record IsEpochOf (held : Held) (images : List (ℕ × Content)) (epoch : Epo
   pub events : map (λ placed. placed.1) epoch.events ≡ held.settled ++ take count held.pending
   pub fine : epoch.bad ≡ None
 
+-- what is held where an epoch was read
+abbrev pub held_of : Image → Epoch → Held
+held_of image epoch = record {
+  epoch = epoch.head.epoch;
+  base = take (images_end epoch.head) (image epoch.area);
+  settled = map (λ placed. placed.1) epoch.events;
+  pending = [];
+  next = None;
+}
+
 -- an epoch that has just begun
 abbrev pub begun : NewEpoch → Held
 begun new = record { epoch = new.epoch; base = base_of new OPEN; settled = []; pending = []; next = None }
@@ -88,6 +98,10 @@ changed held (Begun new) = begun new
 -- of what is pending, so many more events are settled
 abbrev pub settled_more : ℕ → Held → Held
 settled_more count held = record held { settled = held.settled ++ take count held.pending; pending = drop count held.pending }
+
+-- all of it is
+abbrev pub with_all_settled : Held → Held
+with_all_settled held = record held { settled = held.settled ++ held.pending; pending = [] }
 
 -- What the image reads as, where these changes are made one after the other, and at any moment between: one of the epochs that
 -- counted, with no event that was settled before left out.

@@ -1,22 +1,23 @@
 //! What lasts of both log areas over settles and new epochs.
 
-ghost use Rattle.std.specs.Prelude.{◌≡◌, ◌⊎◌, ◌++◌, ◌∷◌, [], ℕ, List, Option, Some, None, Ok, Result};
+ghost use Rattle.std.specs.Prelude.{◌≡◌, ◌⊎◌, ◌<◌, ◌≤◌, ◌++◌, ◌∷◌, [], ℕ, List, length, Option, Some, None, Ok, Result};
 ghost use Rattle.vec_history.specs.declared.event.Event.{Event};
 ghost use Rattle.page_bytes.specs.Content.{Content};
-ghost use Rattle.page_log.specs.declared.limits.TheConstants.{OPEN};
-ghost use Rattle.vec_outside.specs.Disk.{Image, IsImage};
+ghost use Rattle.page_log.specs.declared.limits.TheConstants.{HEAD, MOST_USED, OPEN};
+ghost use Rattle.vec_outside.specs.Disk.{Image, IsDurable, IsImage};
 ghost use Rattle.vec_outside.specs.declared.disks.Area.TheVariants.{Pages, Log0, Log1};
 ghost use Rattle.page_log.specs.Aside.{AreAll, IsAside, IsUnderShut, IsUnderSome};
-ghost use Rattle.page_log.specs.BothLogs.{Change, Held, HasImages, IsEpochOf, Logs, Ready, IsNext, IsStanding, LogsComeFrom, LogsGoOn, Reads, ReadsAny, added, alone, before_next, begun, begun_log, other_log};
-ghost use Rattle.page_log.specs.Going.{ComesFrom, KeepsOthers, Unsettled};
+ghost use Rattle.page_log.specs.BothLogs.{Change, Held, HasImages, IsEpochOf, Logs, Ready, IsNext, IsStanding, LogsComeFrom, LogsGoOn, Reads, ReadsAny, added, alone, before_next, begun, begun_log, held_of, other_log, with_all_settled};
+ghost use Rattle.page_log.specs.Going.{ComesFrom, KeepsOthers, SettlesAll, Unsettled};
 ghost use Rattle.page_log.specs.NewEpochs.{NewEpoch, IsNewEpoch, IsUnder, base_of};
+ghost use Rattle.page_log.specs.Parts.{at_end};
 ghost use Rattle.page_log.specs.Opening.{Epoch, ReadsAs, Spot, area_of, parity_of};
 
 use vec_outside::Disks;
 
 /// A law, and no work. What holds of both log areas between two moments, and between the second and a third, holds between the
 /// first and the third. It holds where nothing is done, where a log goes on beside an area that does not count, and where pages
-/// alone are written.
+/// alone are written. Once such a log has settled all, the logs stand with nothing pending.
 pub fn law_logs<D: Disks>()
     ensures same { (disks : D) (logs : Logs) → LogsComeFrom logs (D.disk disks) logs (D.disk disks) [] }
     ensures joined { (first second third : D) (old mid new : Logs) (some more : List Change)
@@ -24,18 +25,25 @@ pub fn law_logs<D: Disks>()
         → LogsComeFrom old (D.disk first) new (D.disk third) (some ++ more) }
     ensures log { (old new : D) (log after : Unsettled) (events : List Event) → ComesFrom log (D.disk old) after (D.disk new) events
         → LogsComeFrom (alone log) (D.disk old) (alone after) (D.disk new) (added events) }
+    ensures settled { (old new : D) (log after : Unsettled) (held : Held) → ComesFrom log (D.disk old) after (D.disk new) []
+        → SettlesAll log (D.disk old) after (D.disk new) → IsStanding (alone log) (D.disk old) held
+        → IsStanding (alone after) (D.disk new) (with_all_settled held) }
     ensures pages { (old new : D) (logs : Logs) → KeepsOthers Pages (D.disk old) (D.disk new)
         → LogsComeFrom logs (D.disk old) logs (D.disk new) [] }
 {}
 
 /// A law, and no work. Every image of logs that stand so reads as the epoch that counts, or as the next one where that is ready.
+/// Logs that were read from durable bytes, to their end at a closed seal, stand with what was read settled and nothing pending.
 /// An epoch that was written behind a closed seal is ready, where all events are settled and its number is the next one. What
 /// is read then is the epoch with its images, and of its events all that are settled and the first so many that are pending; the
-/// images of a new epoch are those that were written. An image
-/// reads as one thing; with both areas closed that is no index.
+/// images of a new epoch are those that were written. An image reads as one thing; with both areas closed that is no index.
 pub fn law_epochs<D: Disks>()
     ensures images { (disks : D) (logs : Logs) (held : Held) → IsStanding logs (D.disk disks) held → (image : Image)
         → IsImage (D.disk disks) image → ReadsAny held image }
+    ensures opened { (disks : D) (epoch : Epoch) → IsDurable epoch.area (D.disk disks) → IsDurable (other_log epoch.area) (D.disk disks)
+        → HEAD ≤ length ((D.disk disks).seen (other_log epoch.area)) → ReadsAs (D.disk disks).seen (Ok (Some epoch)) → epoch.bad ≡ None
+        → epoch.end < length ((D.disk disks).seen epoch.area) → epoch.used ≤ MOST_USED
+        → IsStanding (alone (at_end epoch.area epoch.end epoch.used)) (D.disk disks) (held_of (D.disk disks).seen epoch) }
     ensures ready { (disks : D) (log : Unsettled) (held : Held) (new : NewEpoch) → IsStanding (alone log) (D.disk disks) held
         → IsNext held new → AreAll (IsUnderShut new) (area_of new.epoch) (D.disk disks)
         → LogsGoOn (D.disk disks) (before_next log new) (D.disk disks) held (Ready new ∷ []) }

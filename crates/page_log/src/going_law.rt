@@ -14,10 +14,11 @@ ghost use Rattle.page_log.specs.declared.limits.TheConstants.{MOST_USED};
 
 use vec_outside::Disks;
 
-/// A law, and no work. Where a batch is out of a log, what is left once it is settled is the log. Of a log that goes on with its disks, every image holds what is settled and of what is pending the first
-/// so many events; with nothing pending it holds just what is settled. The log goes on where an event is added that has room,
-/// which is then the last that is pending, and where a batch is taken out. A log that was read from durable bytes, to its end at
-/// a closed seal, goes on with the events that were read settled and nothing pending.
+/// A law, and no work. Where a batch is out of a log, what is left once it is settled is the log. Of a log that goes on with its
+/// disks, every image holds what is settled and of what is pending the first so many events; with nothing pending it holds just
+/// what is settled. The log goes on where an event is added that has room, which is then the last that is pending, and where a
+/// batch is taken out. A log that was read from durable bytes, to its end at a closed seal, goes on with the events that were read
+/// settled and nothing pending.
 pub fn law_going<D: Disks>()
     ensures images { (disks : D) (base : List ℕ) (log : Unsettled) (settled pending : List Event)
         → IsGoing base log (D.disk disks) settled pending → (image : Image) → IsImage (D.disk disks) image

@@ -1,6 +1,7 @@
 use Rattle.page_log.proofs.BothAreas.{image_reads, epoch_ready, none_counts}
 use Rattle.page_log.proofs.HeldEpochs.{held_epoch, new_images}
 use Rattle.page_log.proofs.OneReading.{one_reading}
+use Rattle.page_log.proofs.Reopened.{read_stands}
 use Rattle.page_log.proofs.epoch_law.law_epochs.Goals as goal
 
 pub returns-clause-images : goal.returns-clause-images
@@ -21,3 +22,7 @@ returns-clause-epoch g c held image images has reads = held_epoch held image ima
 
 pub returns-clause-begun : goal.returns-clause-begun
 returns-clause-begun g c new good = new_images new good
+
+pub returns-clause-opened : goal.returns-clause-opened
+returns-clause-opened g c disks epoch durable other_durable long reads fine within fits =
+    read_stands (g.D.Disks.disk disks) epoch durable other_durable long reads fine within fits

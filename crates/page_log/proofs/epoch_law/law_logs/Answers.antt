@@ -1,4 +1,4 @@
-use Rattle.page_log.proofs.BothAreas.{logs_same, log_comes, pages_written}
+use Rattle.page_log.proofs.BothAreas.{logs_same, log_comes, settled_stands, pages_written}
 use Rattle.page_log.proofs.Changing.{logs_further}
 use Rattle.page_log.proofs.epoch_law.law_logs.Goals as goal
 
@@ -14,3 +14,7 @@ returns-clause-log g c old new log after events comes = log_comes log after (g.D
 
 pub returns-clause-pages : goal.returns-clause-pages
 returns-clause-pages g c old new logs others = pages_written logs (g.D.Disks.disk old) (g.D.Disks.disk new) others
+
+pub returns-clause-settled : goal.returns-clause-settled
+returns-clause-settled g c old new log after held comes settles stands =
+    settled_stands log after (g.D.Disks.disk old) (g.D.Disks.disk new) held comes settles stands
