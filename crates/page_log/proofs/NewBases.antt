@@ -4,9 +4,11 @@ use Rattle.std.proofs.lemmas.Bool.Decides.{nat_tests}
 use Rattle.std.proofs.lemmas.List.{take_at, take-take, length-take}
 use Rattle.std.proofs.lemmas.Nat.{from_le_bytes-to_le_bytes_4, from_le_bytes-to_le_bytes_8}
 use Rattle.page_bytes.specs.Content.{Content}
-use Rattle.vec_outside.specs.Disk.{IsTorn, spliced}
+use Rattle.vec_outside.specs.Disk.{IsTorn, spliced, Disk, IsTornImage, IsWritten, LeavesOnly}
+use Rattle.vec_outside.specs.declared.disks.Area.{Area}
 use Rattle.vec_outside.specs.declared.disks.Area.TheVariants.{Log0, Log1}
-use Rattle.page_log.specs.Aside.{IsShut, IsUnderSome}
+use Rattle.page_log.specs.Aside.{IsShut, IsUnderSome, Keeps}
+use Rattle.page_log.proofs.Keeping.{keeps_torn}
 use Rattle.page_log.specs.BothLogs.{IsNamedBase}
 use Rattle.page_log.specs.Epoch.{is_open, form_in, head_in, named_head, bad_size, has_zeros, word_at, long_at}
 use Rattle.page_log.specs.Going.{Holds, LeadsTo, IsSealed, IsBetween}
@@ -174,3 +176,9 @@ under_from new head seal seen bytes title begins is =
           ∙ append_assoc (head ++ (seal ∷ spelled_images new.images)) (0 ∷ []) rest
           ∙ ap (λ (l : List ℕ). (l ++ (seal ∷ spelled_images new.images)) ++ (0 ∷ rest)) title;
     }
+
+-- a write of the seal of an epoch that stands
+pub under_kept : (new : NewEpoch) (area : Area) (old after : Disk) → IsWritten area 39 1 old after → LeavesOnly old after (IsTornImage area 39 1 old)
+    → Keeps (IsUnderSome new) area old after
+under_kept new area old after written moments =
+    keeps_torn (IsUnderSome new) area 39 1 old after written moments (λ was bytes left is torn. under_torn new was bytes is torn)
