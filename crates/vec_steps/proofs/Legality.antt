@@ -312,6 +312,7 @@ extend_done None blocks at e = let k = by (nat_lt blocks MOST_BLOCKS) refl e in 
   new_at : (o : Option Tid) → CameAt at ≡ came_at o → o ≡ Some at
   new_at None w = absurd cc
   new_at (Some x) w = let is : x ≡ at = cc in ap Some is
+
   by : (b : Bool) → nat_lt blocks MOST_BLOCKS ≡ b → CameAt at ≡ cond b (came_at (tid_of blocks 1)) NoBlockLeft
       → (at.block ≡ blocks) × (blocks < MOST_BLOCKS)
   by true below w = ((tid_of-numbers blocks 1 at (new_at (tid_of blocks 1) w)).0, ltb-true _ _ below)
@@ -417,4 +418,4 @@ goes_on (OfNodes g) acts d of shaped legal a t ending s e may agrees is says mad
     more (nodes_history.IsAllowed g) acts (act_of d.number e) legal (node_allowed g acts d (sym of.1) full a t ending s e may agrees is says made)
 goes_on (OfLists g) acts d of shaped legal a t ending s e may agrees is says made =
     more (lists_history.IsAllowed g) acts (act_of d.number e) legal
-        (list_allowed g acts d (own_after g [] acts legal shaped).apart a t ending s e may agrees is says made)
+    (list_allowed g acts d (own_after g [] acts legal shaped).apart a t ending s e may agrees is says made)
