@@ -8,7 +8,7 @@ use Rattle.vec_names.specs.declared.tid.Tid.{Tid}
 use Rattle.vec_names.specs.declared.params.Ops.{Ops}
 use Rattle.neighbour_pick.specs.declared.found.Found.{Found}
 use Rattle.graph_search.specs.Reads.{Look, Answer}
-use Rattle.graph_search.specs.Search.{Start, Turn, Bounds, IsTurn, IsCourse, is_among, is_halted, place_of, known, named, named_in, found_in, fresh, course_reads, only_ef, is_before, is_live, is_done, is_most, in_order, elements_of}
+use Rattle.graph_search.specs.Search.{Start, Turn, Bounds, IsTurn, IsCourse, LayerSearch, is_among, is_halted, place_of, known, named, named_in, found_in, fresh, course_reads, only_ef, is_before, is_live, is_done, is_most, in_order, elements_of}
 use Rattle.graph_search.specs.Descent.{Descent, no_entry, entry_gone, lowered, start_at}
 use Rattle.graph_search.specs.Scan.{Given, Standing, Mode, Held, HoldsAfter, AreNamed, is_known_at, is_nothing, begins_with, after_turn, after_batch, rows_of, last_dist, below, SearchedBelow, FirstBatch, NextBatch, TakesOne, TakesIn, is_over}
 use Rattle.graph_search.specs.ByHolding.{unnamed, IsTurnOf, after_turns, AreTurnsOf, batch_of, elements_in, TakesOf, StandsHolding, stands_after, FirstByHolding, NextByHolding, HoldTheSame}
@@ -423,3 +423,46 @@ module _ (ops : Ops) (query : List Bool) (ef : ℕ) where
         let on = first_on b in
         let after = stands_now (start_at ops query b.from 0) b.turns [] [] b.held on.0 ef on.1 in
         subst (λ (n : Standing). StandsHolding n (after_batch ef b.held)) (sym b.now_is) (record { holds = after.0; are_named = after.1 })
+
+-- ---- a layer's search
+
+-- where a search began does not count for its further turns
+pub from_free : (ops : Ops) (query : List Bool) (xs ys : List Found) (layer ef : ℕ) (most : Option ℕ) (turns : List Turn) (h : Held)
+    → AreTurnsOf (start_at ops query xs layer) ef most h turns → AreTurnsOf (start_at ops query ys layer) ef most h turns
+from_free ops query xs ys layer ef most [] h are = tt
+from_free ops query xs ys layer ef most (t ∷ turns) h are = (
+  record { goes_on = are.0.goes_on; rest = are.0.rest; least = are.0.least; looks = are.0.looks },
+  from_free ops query xs ys layer ef most turns (after_turn (start_at ops query xs layer) t h) are.1,
+)
+
+pub after_free : (ops : Ops) (query : List Bool) (xs ys : List Found) (layer : ℕ) (turns : List Turn) (h : Held)
+    → after_turns (start_at ops query xs layer) turns h ≡ after_turns (start_at ops query ys layer) turns h
+after_free ops query xs ys layer [] h = refl
+after_free ops query xs ys layer (t ∷ turns) h = after_free ops query xs ys layer turns (after_turn (start_at ops query xs layer) t h)
+
+-- turns from what a search holds where it begins, up to where it is over, are the search of the layer
+pub searched : (s : Start) (ef : ℕ) (turns : List Turn) (g : Held) → AreTurnsOf s ef None (begins_with s) turns
+    → HoldTheSame g (after_turns s turns (begins_with s)) → is_over ef None g ≡ true
+    → LayerSearch s ef (course_reads s.layer turns) (elements_in (batch_of ef g))
+searched s ef turns g are same over_is =
+    let on = holds_on s ef None [] [] turns [] (begins_with s) (begins s) (named_begins s) are in
+    let holds : HoldsAfter s turns [] [] g = same_holds s turns [] [] g (after_turns s turns (begins_with s)) same on.0 in
+    record {
+      turns = turns;
+      course = held_course s ef None [] [] turns [] (begins_with s) (begins s) (named_begins s) are;
+      halted = sym (over s turns [] [] g holds ef None) ∙ over_is;
+      reads_are = refl;
+      result_is = elements_are s turns [] [] g holds ef;
+    }
+
+-- from what holds the same, the same turns lead to the same
+pub turns_same : (s : Start) (ef : ℕ) (most : Option ℕ) (g h : Held) (turns : List Turn) → HoldTheSame g h → AreTurnsOf s ef most g turns → AreTurnsOf s ef most h turns
+turns_same s ef most g h [] same are = tt
+turns_same s ef most g h (t ∷ turns) same are = (
+  turn_same s ef most g h t same are.0,
+  turns_same s ef most (after_turn s t g) (after_turn s t h) turns (after_same s g h t same) are.1,
+)
+
+pub after_turns_same : (s : Start) (g h : Held) (turns : List Turn) → HoldTheSame g h → HoldTheSame (after_turns s turns g) (after_turns s turns h)
+after_turns_same s g h [] same = same
+after_turns_same s g h (t ∷ turns) same = after_turns_same s (after_turn s t g) (after_turn s t h) turns (after_same s g h t same)

@@ -1,0 +1,5 @@
+pub mod Looks
+pub mod Steadiness
+pub mod Told
+pub mod Turns
+pub mod Results

@@ -1,0 +1,4 @@
+pub mod Waiting
+pub mod Looking
+pub mod Telling
+pub mod Running

@@ -1,0 +1,12 @@
+pub mod ExactKeys
+pub mod Fronts
+pub mod OneOrder
+pub mod Heaps
+pub mod Splitting
+pub mod Tables
+pub mod Leaders
+pub mod Batches
+pub mod InPlace
+pub mod Known
+pub mod Mentioned
+pub mod HeldSo
