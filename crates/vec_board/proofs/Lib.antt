@@ -4,3 +4,4 @@ pub mod Made
 pub mod Recorded
 pub mod NextStanding
 pub mod FromBefore
+pub mod TellingLooks

@@ -66,3 +66,11 @@ err_then (Err fault) f p = f fault p
 pub never_err : {E : Type 0} (Q : E → Type 0) (r : Result (Unit {0}) E) → IsOk r → IfErr r Q
 never_err Q (Ok done) is = tt
 never_err Q (Err fault) is = absurd cc
+
+pub when_ok : {B : Type 0} {E : Type 0} (r : Result (Unit {0}) E) → (IsOk r → B) → OnOk r B
+when_ok (Ok done) f = f cc
+when_ok (Err fault) f = tt
+
+pub of_ok : {A : Type 0} {E : Type 0} (r : Result (Unit {0}) E) → IsOk r → OnOk r A → A
+of_ok (Ok done) is a = a
+of_ok (Err fault) is a = absurd cc

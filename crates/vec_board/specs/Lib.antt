@@ -4,3 +4,4 @@ pub mod Ready
 pub mod Summaries
 pub mod Standing
 pub mod Acting
+pub mod Looking

@@ -7,6 +7,7 @@ mod commit;
 mod ending;
 mod history;
 mod limits;
+mod looks;
 mod summary;
 mod writable;
 

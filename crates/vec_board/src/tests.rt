@@ -1,6 +1,6 @@
 //! Acts on the pages of a small index.
 
-ghost use Rattle.std.specs.Prelude.{◌≡◌, ◌≤◌, ◌-◌, IfOk, vec_len};
+ghost use Rattle.std.specs.Prelude.{◌≡◌, ◌≤◌, ◌-◌, IfOk, length, vec_len};
 ghost use Rattle.vec_names.specs.Params.{IsInRange};
 
 use crate::{Core, Summary};
@@ -14,7 +14,7 @@ use std::test::*;
 use vec_history::{Event, Gate, Hold, Stage};
 use vec_names::{HeapId, Kind, Listed, Ops, Params, Tid};
 use vec_outside::Area;
-use vec_steps::{LOG_ROOM, StepFault};
+use vec_steps::{Ask, LOG_ROOM, StepFault, Told, Word};
 
 /// The meta tuple of a graph of four places with m 2: no entry point, the hint 1.
 const META: [u8; 32] = [
@@ -51,7 +51,8 @@ fn two_pages(alloc: Global) -> Result<PageList, Fail>
 /// The core of that index, whose next event has the number 5, with so much used of the log.
 fn core(alloc: Global, used: u64) -> Core
     requires { used ≤ 268435456 }
-    ensures { result.summary.blocks ≡ 2 }
+    ensures blocks { result.summary.blocks ≡ 2 }
+    ensures bits { result.params.bits ≡ 4 }
 {
     let summary = Summary {
         blocks: 2,
@@ -193,5 +194,31 @@ fn a_phase_and_its_end(rt: HostRuntime) -> Result<(), Fail> {
     core.commit(4, Event::Cancel { stage }, 0, 0, &mut pages)?;
     assert!(rt; core.commit(4, Event::VacuumEnd, 0, 0, &mut pages).is_err());
     assert!(rt; core.acts().len() == 2 && core.used() == 0);
+    Ok(())
+}
+
+fn told_of(alloc: Global) -> Result<Told, Fail>
+    ensures { IfOk result (λ told. length told.bits ≡ 4) }
+{
+    Ok(Told::make(alloc, graph())?)
+}
+
+/// Behind one act the summary and a page tell what stands there: no node at 2/1 before it was put.
+#[test]
+fn looks_behind_an_act(rt: HostRuntime) -> Result<(), Fail> {
+    let alloc = rt.alloc();
+    let mut pages = two_pages(alloc)?;
+    let mut core = core(alloc, 0);
+    core.commit(1, put(alloc)?, 0, 1, &mut pages)?;
+    let mut told = told_of(alloc)?;
+    core.look(alloc, 3, &pages, &Ask::Meta, &mut told)?;
+    assert!(rt; told.word == Word::Meta && told.at == 1 && told.blocks == 3 && told.hint == 1);
+    let node = Ask::Node {
+        at: at(1),
+        layer: 0,
+        version: None,
+    };
+    core.look(alloc, 3, &pages, &node, &mut told)?;
+    assert!(rt; told.word == Word::Node && told.at == 1 && told.list_at == Some(at(2)));
     Ok(())
 }
