@@ -1,5 +1,5 @@
 -- What room is left behind an act.
-use Rattle.std.proofs.Common.{◌≡◌, ◌⊎◌, ◌≤◌, ◌+◌, ℕ, List, vec_len, vec_capacity, refl, arith, inl, inr}
+use Rattle.std.proofs.Common.{◌≡◌, ◌≤◌, ◌+◌, ℕ, List, vec_len, vec_capacity, refl, arith, inl, inr}
 use Rattle.vec_history.specs.declared.event.Event.{Event}
 use Rattle.vec_history.specs.declared.event.Event.TheVariants as event
 use Rattle.history_tables.specs.declared.rooms.Room.{Room}
@@ -18,13 +18,6 @@ owed_by (event.Ungate gate) before after high ends = let low = ends refl in omeg
 owed_by event.VacuumEnd before after high ends = let low = ends refl in omega (arith, low)
 owed_by (event.Cancel stage) before after high ends = let low = ends refl in omega (arith, low)
 owed_by _ before after high ends = omega (arith, high)
-
--- 0 or 1
-pub ends_once : (e : Event) → (one_if_ends e ≡ 0) ⊎ (one_if_ends e ≡ 1)
-ends_once (event.Ungate gate) = inr refl
-ends_once event.VacuumEnd = inr refl
-ends_once (event.Cancel stage) = inr refl
-ends_once _ = inl refl
 
 -- an event takes a gate, or does not
 pub takes_or : {X : Type 0} (e : Event) → (IsTaking e → X) → ((IsTaking e → ⊥) → X) → X

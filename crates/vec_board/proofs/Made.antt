@@ -58,10 +58,6 @@ pub ok_then : {A B : Type 0} {E : Type 0} (r : Result (Unit {0}) E) → (A → B
 ok_then (Ok done) f a = f a
 ok_then (Err fault) f a = tt
 
-pub err_then : {E : Type 0} {P Q : E → Type 0} (r : Result (Unit {0}) E) → ((e : E) → P e → Q e) → IfErr r P → IfErr r Q
-err_then (Ok done) f p = tt
-err_then (Err fault) f p = f fault p
-
 -- what is always done never fails
 pub never_err : {E : Type 0} (Q : E → Type 0) (r : Result (Unit {0}) E) → IsOk r → IfErr r Q
 never_err Q (Ok done) is = tt

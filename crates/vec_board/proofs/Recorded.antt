@@ -82,6 +82,3 @@ log_by core desk e (inr has) = λ lasts.
     let one = spent_one core.history.rooms.rooms.items desk has in
     let had = core.spare in
     omega (arith, one, had)
-
-pub log_made : (rooms : ℕ) (spare left : ℕ) → left ≤ rooms → rooms + 1 ≤ spare → left + 1 ≤ spare
-log_made rooms spare left less had = omega (arith, less, had)
