@@ -5,7 +5,8 @@ ghost use Rattle.vec_history.specs.declared.event.Act.{Act as Acts};
 ghost use Rattle.vec_history.specs.Gates.{Holds, HoldsAs, AgreesWithOthers};
 ghost use Rattle.vec_history.specs.Phases.{IsAPhaseStanding, IsInPhase};
 ghost use Rattle.vec_history.specs.Settling.{is_lasting, lasting_events};
-ghost use Rattle.history_tables.specs.Telling.{Tells, IsTaking, IsEnd, IsToldEnd, HasRoom, ends_owed, one_if_begins, one_if_some, settled_by, settled_in, phase_after};
+ghost use Rattle.history_tables.specs.Telling.{Tells, IsTaking, IsEnd, IsToldEnd, HasRoom, ends_owed};
+ghost use Rattle.history_tables.specs.Telling.{one_if_begins, one_if_some, settled_by, settled_in, phase_after};
 
 use crate::holders::Holders;
 use std::alloc::{AllocError, Global};

@@ -16,7 +16,8 @@ ghost use Rattle.vec_board.specs.Ready.{IsReady, HasOwnRoom};
 ghost use Rattle.vec_steps.specs.declared.room.TheConstants.{LOG_ROOM};
 ghost use Rattle.vec_steps.specs.Desks.{used_after};
 ghost use Rattle.vec_board.specs.Standing.{acts_of};
-ghost use Rattle.vec_board.specs.Acting.{IsMade, IsAsBefore, IsLogReady, IsChangeFault, IsCommitFault, ComesTo, MayCommit, number_after, log_after, room_of};
+ghost use Rattle.vec_board.specs.Acting.{IsMade, IsAsBefore, IsLogReady, IsChangeFault, IsCommitFault, ComesTo, MayCommit};
+ghost use Rattle.vec_board.specs.Acting.{number_after, log_after, room_of};
 
 use crate::board_core::Core;
 use crate::changing::not_allowed;

@@ -102,7 +102,8 @@ impl History {
 
     // Room for one act, with the end that it may come to owe.
     fn reserve_two(&mut self) -> Result<(), AllocError>
-        ensures acts { OnOk result (vec_len self.new.acts + to_come self.new.rooms.rooms.items self.new.tables + 2 ≤ vec_capacity self.new.acts) }
+        ensures acts { OnOk result
+            (vec_len self.new.acts + to_come self.new.rooms.rooms.items self.new.tables + 2 ≤ vec_capacity self.new.acts) }
         ensures few { OnOk result (vec_len self.new.acts + to_come self.new.rooms.rooms.items self.new.tables + 2 ≤ MOST_ACTS) }
         ensures holds { OnOk result (HasRoom (room_in_all self.new.rooms.rooms.items + 1) self.new.tables) }
         ensures same { IsSameHistory self.old self.new }
