@@ -1,5 +1,5 @@
 -- Entries of a list of holds.
-use Rattle.std.proofs.Common.{◌≡◌, ◌≢◌, ◌↔◌, ◌⊎◌, ℕ, ◌==◌, ◌&&◌, not, Bool, true, false, cond, filter, List, [], ◌∷◌, ◌++◌, refl, sym, ap, subst, ◌∙◌, inl, inr}
+use Rattle.std.proofs.Common.{◌≡◌, ◌⊎◌, ◌≤◌, ◌+◌, ℕ, arith, length, ◌==◌, ◌&&◌, not, Bool, true, false, cond, filter, List, [], ◌∷◌, ◌++◌, refl, sym, ap, subst, ◌∙◌, inl, inr}
 use Rattle.std.proofs.lemmas.Bool.{eq-eqb, eqb-true}
 use Rattle.vec_history.specs.declared.gate.Gate.{Gate}
 use Rattle.vec_history.specs.declared.gate.Gate.TheVariants.{Update, Scan, Vacuum}
@@ -85,3 +85,22 @@ agree_each desk gate hold (x ∷ held) all h (inr rest) = agree_each desk gate h
 pub each_agrees : (desk : ℕ) (gate : Gate) (hold : Hold) (held : List Holder) → ((h : Holder) → IsAmong h held → Agrees desk gate hold h) → AllAgree desk gate hold held
 each_agrees desk gate hold [] each = tt
 each_agrees desk gate hold (x ∷ held) each = (each x (inl refl), each_agrees desk gate hold held (λ h is. each h (inr is)))
+
+-- ---- how many there are
+
+pub fewer_kept : (p : Holder → Bool) (held : List Holder) → length (filter p held) ≤ length held
+fewer_kept p [] = omega arith
+fewer_kept p (x ∷ held) = by (p x) (fewer_kept p held) where
+  by : (b : Bool) → length (filter p held) ≤ length held → length (cond b (x ∷ filter p held) (filter p held)) ≤ length (x ∷ held)
+  by true rest = omega (arith, rest)
+  by false rest = omega (arith, rest)
+
+pub fewer_without : (p : Holder → Bool) (held : List Holder) (h : Holder) → IsAmong h held → p h ≡ false → length (filter p held) + 1 ≤ length held
+fewer_without p [] h is out = absurd is
+fewer_without p (x ∷ held) h is out = by (p x) refl is (fewer_kept p held) (λ rest. fewer_without p held h rest out) where
+  by : (b : Bool) → p x ≡ b → (x ≡ h) ⊎ IsAmong h held → length (filter p held) ≤ length held
+      → (IsAmong h held → length (filter p held) + 1 ≤ length held) → length (cond b (x ∷ filter p held) (filter p held)) + 1 ≤ length (x ∷ held)
+  by true e (inl same) few more = let both : true ≡ false = sym e ∙ ap p same ∙ out in absurd cc
+  by true e (inr rest) few more = let k = more rest in omega (arith, k)
+  by false e (inl same) few more = omega (arith, few)
+  by false e (inr rest) few more = let k = more rest in omega (arith, k)

@@ -1,5 +1,5 @@
 -- What one act more makes of the tables.
-use Rattle.std.proofs.Common.{◌≡◌, ◌≢◌, ◌↔◌, ◌⊎◌, ℕ, ◌+◌, ◌==◌, Bool, true, false, cond, filter, List, [], ◌∷◌, ◌++◌, length, Option, Some, None, MatchOption, refl, sym, ap, subst, ◌∙◌, inl, inr}
+use Rattle.std.proofs.Common.{◌≡◌, ◌↔◌, ℕ, ◌+◌, ◌≤◌, arith, Bool, true, false, filter, List, [], ◌∷◌, ◌++◌, length, Option, Some, None, MatchOption, refl, sym, subst, ◌∙◌, inl, inr}
 use Rattle.vec_history.specs.declared.event.Event.{Event}
 use Rattle.vec_history.specs.declared.event.Event.TheVariants as event
 use Rattle.vec_history.specs.declared.event.Act.{Act}
@@ -13,8 +13,9 @@ use Rattle.vec_history.proofs.OneMore.{hold_on, hold_back, hold_new, hold_ends, 
 use Rattle.vec_history.proofs.OneAtATime.{one_hold}
 use Rattle.history_tables.specs.declared.holders.Holder.{Holder}
 use Rattle.history_tables.specs.declared.tables.Phase.{Phase}
-use Rattle.history_tables.specs.Telling.{IsAmong, AreHolders, AllAgree, IsHeldAs, is_other, IsPhaseOf, settled_by, settled_from, settled_in, held_by, phase_by}
-use Rattle.history_tables.proofs.Entries.{among_kept, kept_among, among_more, more_among, last_among, is_own, own_is, agree_each, each_agrees}
+use Rattle.history_tables.specs.declared.tables.Tables.{Tables}
+use Rattle.history_tables.specs.Telling.{IsAmong, AreHolders, AllAgree, IsHeldAs, is_other, IsPhaseOf, settled_by, settled_from, held_by, phase_by, IsEnd, IsToldEnd, ends_owed, one_if_some}
+use Rattle.history_tables.proofs.Entries.{among_kept, kept_among, among_more, more_among, last_among, is_own, own_is, agree_each, each_agrees, fewer_without}
 
 -- ---- holds
 
@@ -185,3 +186,29 @@ phase_on_act phase acts are desk event.VacuumEnd = phase_done acts desk
 phase_on_act phase acts are desk (event.Cancel stage) = phase_cancelled acts desk stage
 phase_on_act phase acts are desk (event.Settled upto) = phase_stays phase acts (act_of desk (event.Settled upto)) (λ is. is) are
 phase_on_act phase acts are desk (event.DiskFaulted count) = phase_stays phase acts (act_of desk (event.DiskFaulted count)) (λ is. is) are
+
+-- ---- what is owed
+
+phase_there : (phase : Option Phase) (acts : List Act) → IsPhaseOf phase acts → IsAPhaseStanding acts → one_if_some phase ≡ 1
+phase_there None acts none stands = absurd (none stands)
+phase_there (Some p) acts is stands = refl
+
+-- an end of what stands leaves one less to end
+pub ends_one : (tables : Tables) (desk : ℕ) (e : Event) → IsToldEnd tables desk e
+    → length (held_by tables.holders.held.items desk e) + one_if_some (phase_by tables.phase desk e) + 1 ≤ ends_owed tables
+ends_one tables desk (event.Ungate gate) told =
+    let own : Holder = record { desk = desk; gate = gate; hold = told.0 } in
+    let few = fewer_without (is_other desk gate) tables.holders.held.items own told.1 (own_is desk gate own refl refl) in
+    omega (arith, few)
+ends_one tables desk event.VacuumEnd told = omega (arith, told)
+ends_one tables desk (event.Cancel stage) told = omega (arith, told)
+ends_one tables desk _ none = absurd none
+
+-- what acts end is told to be an end
+pub end_told : (tables : Tables) (acts : List Act) (desk : ℕ) (e : Event) → AreHolders tables.holders.held.items acts → IsPhaseOf tables.phase acts
+    → IsEnd acts desk e → IsToldEnd tables desk e
+end_told tables acts desk (event.Ungate gate) are is holds =
+    (holds.0, are.all (record { desk = desk; gate = gate; hold = holds.0 }) holds.1)
+end_told tables acts desk event.VacuumEnd are is stands = phase_there tables.phase acts is stands
+end_told tables acts desk (event.Cancel stage) are is stands = phase_there tables.phase acts is stands
+end_told tables acts desk _ are is none = absurd none

@@ -1,11 +1,11 @@
 -- Going over a list of holds from the front.
-use Rattle.std.proofs.Common.{◌≡◌, ℕ, ◌+◌, ◌<◌, ◌≤◌, Bool, true, false, List, [], ◌∷◌, length, get_or, drop, Option, Some, None, inl, inr, sym, ap, subst, ◌∙◌}
+use Rattle.std.proofs.Common.{◌≡◌, ℕ, ◌+◌, ◌<◌, ◌≤◌, true, false, List, ◌∷◌, length, get_or, drop, Option, Some, None, inl, inr, sym, ap, subst, ◌∙◌}
 use Rattle.std.proofs.lemmas.List.{drop_more, drop_all}
 use Rattle.vec_history.specs.declared.gate.Gate.{Gate}
 use Rattle.vec_history.specs.declared.gate.Hold.{Hold}
 use Rattle.history_tables.specs.declared.holders.Holder.{Holder}
-use Rattle.history_tables.specs.Telling.{IsAmong, IsHeldAs, is_other}
-use Rattle.history_tables.proofs.Entries.{own_is, is_own}
+use Rattle.history_tables.specs.Telling.{IsHeldAs, is_other}
+use Rattle.history_tables.proofs.Entries.{own_is}
 
 -- an entry of another desk or gate says nothing
 pub skip_other : (desk : ℕ) (gate : Gate) (h : Holder) (held : List Holder) (o : Option Hold) → is_other desk gate h ≡ true → IsHeldAs desk gate held o

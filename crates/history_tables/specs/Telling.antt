@@ -1,5 +1,5 @@
 -- What tables beside a history tell of it: who holds which gate, the phase that stands, how much is lasting and how much settled.
-use Rattle.std.specs.Prelude.{◌≡◌, ◌≢◌, ◌↔◌, ◌⊎◌, ⊤, ℕ, ◌+◌, ◌<◌, ◌≤◌, Bool, true, false, not, ◌==◌, ◌&&◌, List, [], ◌∷◌, ◌++◌, filter, Option, Some, None, MatchOption, vec_len, vec_capacity}
+use Rattle.std.specs.Prelude.{◌≡◌, ◌≢◌, ◌⊎◌, ⊤, ℕ, length, ◌+◌, ◌≤◌, Bool, true, false, not, ◌==◌, ◌&&◌, List, [], ◌∷◌, ◌++◌, filter, Option, Some, None, MatchOption, vec_len, vec_capacity}
 use Rattle.vec_history.specs.declared.event.Event.{Event}
 use Rattle.vec_history.specs.declared.event.Event.TheVariants as event
 use Rattle.vec_history.specs.declared.event.Act.{Act}
@@ -101,3 +101,34 @@ HasRoom holds tables = vec_len tables.holders.held + holds ≤ vec_capacity tabl
 abbrev pub IsTaking : Event → Type 0
 IsTaking (event.Gate gate hold) = ⊤
 IsTaking _ = ⊥
+
+-- ---- what is owed
+
+abbrev pub one_if_some : Option Phase → ℕ
+one_if_some None = 0
+one_if_some (Some phase) = 1
+
+-- how many acts end all that stands: a release for each hold, and the end of the phase
+abbrev pub ends_owed : Tables → ℕ
+ends_owed tables = length tables.holders.held.items + one_if_some tables.phase
+
+-- how many more an event makes them at most: one, where it takes a gate or begins a phase
+abbrev pub one_if_begins : Event → ℕ
+one_if_begins (event.Gate gate hold) = 1
+one_if_begins (event.Phase stage) = 1
+one_if_begins _ = 0
+
+-- the tables tell that the event ends a hold of this desk, or the phase that stands
+abbrev pub IsToldEnd : Tables → ℕ → Event → Type 0
+IsToldEnd tables desk (event.Ungate gate) =
+    (hold : Hold) × IsAmong (record { desk = desk; gate = gate; hold = hold }) tables.holders.held.items
+IsToldEnd tables desk event.VacuumEnd = one_if_some tables.phase ≡ 1
+IsToldEnd tables desk (event.Cancel stage) = one_if_some tables.phase ≡ 1
+IsToldEnd tables desk _ = ⊥
+
+-- after these acts it does so
+abbrev pub IsEnd : List Act → ℕ → Event → Type 0
+IsEnd acts desk (event.Ungate gate) = Holds acts desk gate
+IsEnd acts desk event.VacuumEnd = IsAPhaseStanding acts
+IsEnd acts desk (event.Cancel stage) = IsAPhaseStanding acts
+IsEnd acts desk _ = ⊥

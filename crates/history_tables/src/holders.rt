@@ -1,8 +1,9 @@
 //! Who holds which gate.
 
-ghost use Rattle.std.specs.Prelude.{◌≡◌, ◌++◌, ◌∷◌, [], ◌+◌, ◌<◌, ◌≤◌, ℕ, ◌↔◌, IsTrue, List, OnOk, OnErr, filter, vec_len, vec_capacity};
+ghost use Rattle.std.specs.Prelude.{◌≡◌, ◌++◌, ◌∷◌, [], ◌+◌, ◌<◌, ◌≤◌, ℕ, ◌↔◌, IsTrue, List, OnOk, OnErr, filter, length, vec_len, vec_capacity};
 ghost use Rattle.history_tables.specs.declared.holders.Holder.{Holder as Entries};
-ghost use Rattle.history_tables.specs.Telling.{Agrees, AllAgree, IsHeldAs, IsTaking, held_after, is_other};
+ghost use Rattle.vec_history.specs.declared.gate.Hold.{Hold as Ways};
+ghost use Rattle.history_tables.specs.Telling.{IsAmong, Agrees, AllAgree, IsHeldAs, IsTaking, held_after, is_other};
 
 use std::alloc::{AllocError, Global};
 use vec_history::{Act, Event, Gate, Hold};
@@ -37,7 +38,8 @@ fn is_other(entry: Holder, desk: u32, gate: Gate) -> bool
 impl Holders {
     /// Nobody holds a gate.
     pub fn new(alloc: Global) -> Holders
-        ensures { result.held.items ≡ [] }
+        ensures none { result.held.items ≡ [] }
+        ensures room { vec_len result.held ≤ vec_capacity result.held }
     {
         Holders {
             held: Vec::new(alloc),
@@ -51,6 +53,13 @@ impl Holders {
         ensures kept { vec_capacity self.old.held ≤ vec_capacity self.new.held }
     {
         self.held.reserve(holds)
+    }
+
+    /// How many holds there are.
+    pub fn count(&self) -> usize
+        ensures { result ≡ length self.now.held.items }
+    {
+        self.held.as_slice().len()
     }
 
     /// Whether the hold may stand beside those of the other desks.
@@ -75,6 +84,17 @@ impl Holders {
             }
         }
         None
+    }
+
+    /// Whether the desk holds the gate.
+    pub fn is_held(&self, desk: u32, gate: Gate) -> bool
+        ensures { IsTrue result
+            ↔ ((hold : Ways) × IsAmong (record { desk = desk; gate = gate; hold = hold }) self.now.held.items) }
+    {
+        match self.hold_of(desk, gate) {
+            Some(_) => true,
+            None => false,
+        }
     }
 
     /// The desk holds the gate in this way, and in no other.

@@ -5,7 +5,8 @@ ghost use Rattle.vec_history.specs.declared.event.Act.{Act as Acts};
 ghost use Rattle.vec_history.specs.Gates.{Holds, HoldsAs, AgreesWithOthers};
 ghost use Rattle.vec_history.specs.Phases.{IsAPhaseStanding, IsInPhase};
 ghost use Rattle.vec_history.specs.Settling.{is_lasting, lasting_events};
-ghost use Rattle.history_tables.specs.Telling.{Tells, IsTaking, HasRoom, settled_by, settled_in, phase_after};
+ghost use Rattle.history_tables.specs.Telling.{Tells, IsTaking, IsEnd, IsToldEnd, HasRoom, ends_owed};
+ghost use Rattle.history_tables.specs.Telling.{one_if_begins, one_if_some, settled_by, settled_in, phase_after};
 
 use crate::holders::Holders;
 use std::alloc::{AllocError, Global};
@@ -30,7 +31,9 @@ pub struct Tables {
 impl Tables {
     /// The tables beside no act.
     pub fn new(alloc: Global) -> Tables
-        ensures { Tells result [] }
+        ensures tells { Tells result [] }
+        ensures room { HasRoom 0 result }
+        ensures owed { ends_owed result ≡ 0 }
     {
         Tables {
             holders: Holders::new(alloc),
@@ -45,6 +48,7 @@ impl Tables {
         ensures same { (acts : List Acts) → Tells self.old acts → Tells self.new acts }
         ensures room { OnOk result (HasRoom holds self.new) }
         ensures kept { (n : ℕ) → HasRoom n self.old → HasRoom n self.new }
+        ensures owed { ends_owed self.new ≡ ends_owed self.old }
     {
         self.holders.reserve(holds)
     }
@@ -86,6 +90,27 @@ impl Tables {
         self.settled
     }
 
+    /// How many acts end all that stands: a release for each hold, and the end of the phase.
+    pub fn ends_owed(&self) -> u64
+        requires { ends_owed self.now < 2 ^ 64 }
+        ensures { result ≡ ends_owed self.now }
+    {
+        self.holders.count() as u64 + one_if_some(self.phase)
+    }
+
+    /// Whether the event ends a hold of the desk, or the phase that stands.
+    pub fn is_end(&self, desk: u32, event: &Event) -> bool
+        ensures told { IsTrue result ↔ IsToldEnd self.now desk event.now }
+        ensures ends { (acts : List Acts) → Tells self.now acts → IsEnd acts desk event.now → IsTrue result }
+    {
+        match event {
+            Event::Ungate { gate } => self.holders.is_held(desk, *gate),
+            Event::VacuumEnd => one_if_some(self.phase) == 1,
+            Event::Cancel { stage: _ } => one_if_some(self.phase) == 1,
+            _ => false,
+        }
+    }
+
     /// One act more. It takes no memory.
     pub fn note(&mut self, act: &Act)
         requires { IsTaking act.now.event → HasRoom 1 self.old }
@@ -93,11 +118,22 @@ impl Tables {
             → Tells self.new (acts ++ act.now ∷ []) }
         ensures taken { (n : ℕ) → HasRoom (n + 1) self.old → HasRoom n self.new }
         ensures kept { (n : ℕ) → (IsTaking act.now.event → ⊥) → HasRoom n self.old → HasRoom n self.new }
+        ensures owed { ends_owed self.new ≤ ends_owed self.old + one_if_begins act.now.event }
+        ensures ended { IsToldEnd self.old act.now.desk act.now.event → ends_owed self.new + 1 ≤ ends_owed self.old }
     {
         self.lasting = lasting_after(self.lasting, &act.event);
         self.settled = settled_after(self.settled, &act.event);
         self.phase = phase_after(self.phase, act);
         self.holders.note(act);
+    }
+}
+
+fn one_if_some(phase: Option<Phase>) -> u64
+    ensures { result ≡ one_if_some phase }
+{
+    match phase {
+        Some(_) => 1,
+        None => 0,
     }
 }
 

@@ -78,6 +78,20 @@ fn a_vacuum_beside_an_insert(rt: HostRuntime) -> Result<(), AllocError> {
     Ok(())
 }
 
+// Two holds and a phase are to end: desk 2 can end its own hold alone, and the phase.
+#[test]
+fn what_is_to_end(rt: HostRuntime) -> Result<(), AllocError> {
+    let tables = beginning(&rt)?;
+    let update = Event::Ungate { gate: Gate::Update };
+    let vacuum = Event::Ungate { gate: Gate::Vacuum };
+    assert!(rt;
+        tables.is_end(2, &update) && !tables.is_end(2, &vacuum) && !tables.is_end(1, &update)
+    );
+    assert!(rt; tables.is_end(1, &vacuum) && tables.is_end(2, &Event::VacuumEnd));
+    assert!(rt; !tables.is_end(1, &phase(Stage::Remove)));
+    Ok(())
+}
+
 #[test]
 fn rooms_of_two_desks(rt: HostRuntime) -> Result<(), AllocError> {
     let mut rooms = Rooms::new(rt.alloc());

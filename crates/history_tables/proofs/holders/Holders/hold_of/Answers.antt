@@ -1,6 +1,6 @@
-use Rattle.std.proofs.Common.{◌≡◌, ◌≤◌, ◌<◌, ◌+◌, length, drop, List, None, sym, subst, ap, ◌∙◌}
+use Rattle.std.proofs.Common.{◌≤◌, ◌+◌, length, drop, List, None, sym, subst, ◌∙◌}
 use Rattle.history_tables.specs.declared.holders.Holder.{Holder}
-use Rattle.history_tables.specs.Telling.{is_other, IsHeldAs}
+use Rattle.history_tables.specs.Telling.{IsHeldAs}
 use Rattle.history_tables.proofs.Seeing.{step_other, none_left}
 use Rattle.history_tables.proofs.holders.Holders.hold_of.Goals as goal
 

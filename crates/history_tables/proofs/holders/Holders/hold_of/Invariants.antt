@@ -1,4 +1,4 @@
-use Rattle.std.proofs.Common.{◌≡◌, ℕ, List, drop, Option}
+use Rattle.std.proofs.Common.{drop, Option}
 use Rattle.vec_history.specs.declared.gate.Hold.{Hold}
 use Rattle.history_tables.specs.Telling.{IsHeldAs}
 use Rattle.history_tables.proofs.holders.Holders.hold_of.Given as goal

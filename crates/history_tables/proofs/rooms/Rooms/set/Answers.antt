@@ -1,5 +1,4 @@
-use Rattle.std.proofs.Common.{◌≡◌, ◌≤◌, ◌+◌, ◌-◌, refl, sym, ap, subst, ◌∙◌, arith}
-use Rattle.history_tables.specs.declared.rooms.Room.{Room}
+use Rattle.std.proofs.Common.{sym, ap, ◌∙◌, arith}
 use Rattle.history_tables.specs.Rooms.{room_in_all}
 use Rattle.history_tables.proofs.OneRoom.{found_set, found_sum, found_within, none_set, push_sum}
 use Rattle.history_tables.proofs.rooms.Rooms.set.Goals as goal

@@ -1,5 +1,4 @@
-use Rattle.std.proofs.Common.{◌≡◌, ◌≤◌, ◌+◌, ◌-◌, min, List, refl, sym, ap, subst, ◌∙◌, arith, slice_set}
-use Rattle.history_tables.specs.declared.rooms.Room.{Room}
+use Rattle.std.proofs.Common.{sym, ap, ◌∙◌, arith, slice_set}
 use Rattle.history_tables.specs.Rooms.{room_in_all}
 use Rattle.history_tables.proofs.OneRoom.{found_spent, found_less, found_within, none_spent}
 use Rattle.history_tables.proofs.rooms.Rooms.spend.Goals as goal

@@ -1,8 +1,3 @@
-use Rattle.std.proofs.Common.{◌≡◌, Option, Some, None, MatchOption, List, refl}
-use Rattle.vec_history.specs.declared.event.Act.{Act}
-use Rattle.vec_history.specs.declared.gate.Hold.{Hold}
-use Rattle.vec_history.specs.Gates.{Holds, HoldsAs}
-use Rattle.history_tables.specs.Telling.{IsHeldAs, AreHolders}
 use Rattle.history_tables.proofs.Noting.{held_as}
 use Rattle.history_tables.proofs.tables.Tables.hold_of.Goals as goal
 

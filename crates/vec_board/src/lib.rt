@@ -1,0 +1,19 @@
+//! The board of an index: its acts, its pages and its log, which change together by one act at a time.
+#![tactic(auto)]
+
+mod board_core;
+mod changing;
+mod commit;
+mod ending;
+mod history;
+mod limits;
+mod looks;
+mod summary;
+mod writable;
+
+pub use board_core::Core;
+pub use history::History;
+pub use summary::Summary;
+
+#[cfg(test)]
+mod tests;
