@@ -3,3 +3,5 @@ pub mod Steadiness
 pub mod Told
 pub mod Turns
 pub mod Results
+pub mod Lowering
+pub mod Entering

@@ -7,7 +7,7 @@ use Rattle.std.proofs.lemmas.List.{map-append}
 use Rattle.vec_names.specs.declared.tid.Tid.{Tid}
 use Rattle.vec_history.specs.declared.event.Event.{Event}
 use Rattle.vec_history.specs.declared.event.Act.{Act}
-use Rattle.graph_search.specs.Reads.{Look, AtNode, AtList, Answer}
+use Rattle.graph_search.specs.Reads.{Look, AtMeta, AtNode, AtList, Answer, OfMeta}
 use Rattle.graph_search.specs.Deeds.{looked, looks_of}
 use Rattle.search_sets.specs.declared.spot.Spot.{Spot}
 use Rattle.vec_steps.specs.declared.ask.Ask.{Ask}
@@ -189,3 +189,37 @@ ended_over on b = record {
 pub fails : {T E : Type 0} {Q P : E → Type 0} (r : Result T E) → ((e : E) → Q e → P e) → IsErrAnd r Q → IfErr r P
 fails (Ok x) end h = absurd h
 fails (Err e) end h = end e h
+
+-- ---- the meta tuple
+
+pub meta_asks : {stands : Index → Type 0} {d : Desk} {acts : List Act} (layer : ℕ) (base : Index) → OverSpots stands acts layer [] base
+    → Asks stands d acts ask.Meta base
+meta_asks layer (OfNodes g) o = record { stood = o.stood; may = tt }
+meta_asks layer (OfLists g) o = absurd o.there
+
+pub meta_looked : {stands : Index → Type 0} {d : Desk} {old new : List Act} {before now : List ℕ} {left : Ask} {told : Told} (layer : ℕ)
+    → Stepped (Asks stands d old ask.Meta) d old new ask.Meta left told → now ≡ before ++ told.at ∷ []
+    → MadeLooks (OverSpots stands old layer []) d old new before now ((AtMeta, OfMeta told.tid told.level told.hint told.blocks) ∷ [])
+meta_looked {told = told} layer s traced = record {
+  course = (told.at, did (looked AtMeta (OfMeta told.tid told.level told.hint told.blocks))) ∷ [];
+  does = one_step (meta_asks layer) s;
+  is = record { deeds = (refl, tt); traced = traced };
+}
+
+never_of_meta : (d : Desk) (base : Index) (acts : List Act) (f : StepFault) → IsCause d base acts ask.Meta f → IsLogFault f → ⊥
+never_of_meta d base acts fault.Memory cause h = h
+never_of_meta d base acts (fault.Disk count) cause h = h
+never_of_meta d base acts (fault.LogFull used size) cause h =
+    no_event d AtMeta (OfMeta cause.told.tid cause.told.level cause.told.hint cause.told.blocks) cause.step cause.event cause.would cause.makes
+
+pub meta_failed : {stands : Index → Type 0} {d : Desk} {old new : List Act} (layer : ℕ) (f : StepFault) (end : OpFault) → end ≡ op_fault f
+    → Failed (Asks stands d old ask.Meta) d old new ask.Meta f → EndedBy (OverSpots stands old layer []) d old new end
+meta_failed {d = d} {new = new} layer f end end_is s = record {
+  looked = [];
+  only_looks = tt;
+  at = s.at;
+  step_fault = f;
+  fault_is = end_is;
+  does = fault_does s;
+  not_of_log = λ base o. never_of_meta d base new f (s.cause base (meta_asks layer base o));
+}

@@ -1,10 +1,12 @@
 -- What the parts of a layer's search do.
-use Rattle.std.specs.Prelude.{◌≡◌, ℕ, List, ◌∷◌, map, Option, None}
+use Rattle.std.specs.Prelude.{◌≡◌, ℕ, Bool, min, List, [], ◌∷◌, map, Option, Some, None}
 use Rattle.vec_names.specs.declared.tid.Tid.{Tid}
+use Rattle.vec_names.specs.declared.params.Ops.{Ops}
 use Rattle.vec_history.specs.declared.event.Act.{Act}
 use Rattle.neighbour_pick.specs.declared.found.Found.{Found}
-use Rattle.graph_search.specs.Reads.{Look, AtNode, AtList, Answer}
-use Rattle.graph_search.specs.Search.{Start, Turn, LayerSearch, course_reads, elements_of, named_in, turn_reads}
+use Rattle.graph_search.specs.Reads.{Answer, AtList, AtMeta, AtNode, Look, OfMeta}
+use Rattle.graph_search.specs.Search.{LayerSearch, Start, Turn, course_reads, element_of, elements_of, named_in, turn_reads}
+use Rattle.graph_search.specs.Descent.{Descent, IsLowered}
 use Rattle.graph_search.specs.Scan.{Held, after_turn}
 use Rattle.graph_search.specs.ByHolding.{AreTurnsOf, HoldTheSame, after_turns, unnamed}
 use Rattle.search_sets.specs.declared.spot.Spot.{Spot}
@@ -54,3 +56,44 @@ pub record SearchesLayer (over : Index → Type 0) (d : Desk) (old new : List Ac
   pub reads : List (Look × Answer)
   pub made : MadeLooks over d old new before now reads
   pub search : LayerSearch s ef reads result
+
+-- ---- from the entry point down
+
+-- the layer that is searched next after a descent to a layer: this one, or the entry point's level where that is lower
+abbrev pub next_layer : ℕ → Option ℕ → ℕ
+next_layer to None = to
+next_layer to (Some top) = min to top
+
+-- So many layers were searched, each from what the one above found, down to where the next search begins.
+pub record Lowers (over : Index → Type 0) (d : Desk) (old new : List Act) (before now : List ℕ) (ops : Ops) (query : List Bool)
+    (to layers : ℕ) (first result : List Found) : Type 0 where
+  pub reads : List (Look × Answer)
+  pub made : MadeLooks over d old new before now reads
+  pub lowered : IsLowered ops query to layers first reads result
+
+-- The look at the meta tuple, and then the look at the entry point, at its level. Where there is one, it is where the descent begins.
+pub data IsEntered (ops : Ops) (query : List Bool) : List (Look × Answer) → Option ℕ → List Found → Type 0 where
+  no_entry : (level hint blocks : ℕ) → IsEntered ops query ((AtMeta, OfMeta None level hint blocks) ∷ []) None []
+  entry_gone : (at : Tid) (level hint blocks : ℕ) (told : Answer) → element_of ops query at told ≡ []
+      → IsEntered ops query ((AtMeta, OfMeta (Some at) level hint blocks) ∷ (AtNode at level None, told) ∷ []) None []
+  there : (at : Tid) (level hint blocks : ℕ) (told : Answer) (e : Found) → element_of ops query at told ≡ e ∷ []
+      → IsEntered ops query ((AtMeta, OfMeta (Some at) level hint blocks) ∷ (AtNode at level None, told) ∷ []) (Some level) (e ∷ [])
+
+-- A call looked for the entry point, and found this.
+pub record Enters (over : Index → Type 0) (d : Desk) (old new : List Act) (before now : List ℕ) (ops : Ops) (query : List Bool)
+    (top : Option ℕ) (from : List Found) : Type 0 where
+  pub reads : List (Look × Answer)
+  pub made : MadeLooks over d old new before now reads
+  pub entered : IsEntered ops query reads top from
+
+-- the entry point's level, 0 where there is none
+abbrev pub level_of : Option ℕ → ℕ
+level_of None = 0
+level_of (Some top) = top
+
+-- A call descended to a layer: its looks are those of the descent, and it leads to these elements.
+pub record Descends (over : Index → Type 0) (d : Desk) (old new : List Act) (before now : List ℕ) (ops : Ops) (query : List Bool) (to : ℕ)
+    (top : Option ℕ) (from : List Found) : Type 0 where
+  pub reads : List (Look × Answer)
+  pub made : MadeLooks over d old new before now reads
+  pub descent : Descent ops query to reads top from

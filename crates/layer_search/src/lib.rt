@@ -2,10 +2,12 @@
 #![tactic(auto)]
 
 mod aim;
+mod descending;
 mod expanding;
 mod looking;
 mod searching;
 
+pub use descending::{Descent, descend};
 pub use searching::search_layer;
 
 #[cfg(test)]

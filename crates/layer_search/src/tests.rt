@@ -43,7 +43,7 @@ fn value(alloc: Global, text: &str) -> Result<Bits, Fail>
     Ok(bits)
 }
 
-// A node of level 0 with its list right behind it, which names these.
+// A node with its list at 1/9, which names these: four slots are those of level 0, and six those of level 1.
 fn put(
     alloc: Global,
     nodes: &mut Mapped<Node>,
@@ -62,8 +62,9 @@ fn put(
     }
     let mut slots = Listed::new(alloc);
     slots.extend_from_slice(names)?;
+    let level = if names.len() == 6 { 1 } else { 0 };
     let node = Node {
-        level: 0,
+        level,
         version: 3,
         deleted: false,
         bits: read_bits(alloc, text)?,
@@ -84,6 +85,24 @@ fn desk(nodes: Mapped<Node>) -> StillDesk
         nodes,
         entry: Some(tid(1)),
         level: 0,
+        hint: 1,
+        blocks: 2,
+    };
+    StillDesk { number: 7, graph }
+}
+
+// The same with the entry point at 1/1, of level 1, or without one.
+fn tall_desk(nodes: Mapped<Node>, has_entry: bool) -> StillDesk
+    ensures range { IsInRange result.graph.params }
+    ensures bits { result.graph.params.bits ≡ 4 }
+{
+    let entry = if has_entry { Some(tid(1)) } else { None };
+    let level = if has_entry { 1 } else { 0 };
+    let graph = Graph {
+        params: small(),
+        nodes,
+        entry,
+        level,
         hint: 1,
         blocks: 2,
     };
@@ -253,5 +272,50 @@ fn what_is_gone_and_what_is_refused(rt: HostRuntime) -> Result<(), Fail> {
         Err(fault) => fault == OpFault::LogFull { used: 0, size: 0 },
     };
     assert!(rt; refused);
+    Ok(())
+}
+
+// The nodes 1/1 of the value 1111 and 1/2 of 0001, of level 1, which name each other there.
+fn tall_nodes(alloc: Global) -> Result<Mapped<Node>, Fail> {
+    let mut nodes = Mapped::new(alloc);
+    put(
+        alloc,
+        &mut nodes,
+        1,
+        "1111",
+        true,
+        &[Some(tid(2)), None, None, None, None, None],
+    )?;
+    put(
+        alloc,
+        &mut nodes,
+        2,
+        "0001",
+        true,
+        &[Some(tid(1)), None, None, None, None, None],
+    )?;
+    Ok(nodes)
+}
+
+// Down to layer 0 layer 1 is searched for one element: the meta tuple, the entry point, its list, the other node, and that one's
+// list. Down to layer 1 nothing is. Without an entry point the meta tuple alone is looked at.
+#[test]
+fn from_the_entry_point_down(rt: HostRuntime) -> Result<(), Fail> {
+    let alloc = rt.alloc();
+    let query = value(alloc, "0001")?;
+    let mut trace = Trace {
+        reads: Listed::new(alloc),
+    };
+    let mut desk = tall_desk(tall_nodes(alloc)?, true);
+    let low = descend(alloc, &mut desk, &query, 0, &mut trace)?;
+    assert!(rt; low.top == Some(1) && are(low.from.as_slice(), &[(tid(2), 0)]));
+    assert!(rt; trace.reads.len() == 5);
+    let high = descend(alloc, &mut desk, &query, 1, &mut trace)?;
+    assert!(rt; high.top == Some(1) && are(high.from.as_slice(), &[(tid(1), 3)]));
+    assert!(rt; trace.reads.len() == 7);
+
+    let mut without = tall_desk(tall_nodes(alloc)?, false);
+    let none = descend(alloc, &mut without, &query, 0, &mut trace)?;
+    assert!(rt; none.top == None && none.from.is_empty() && trace.reads.len() == 8);
     Ok(())
 }

@@ -1,0 +1,16 @@
+use Rattle.std.proofs.Common.{refl}
+use Rattle.layer_search.proofs.Looks.{ended_memory, fails, meta_failed, meta_looked}
+use Rattle.layer_search.proofs.looking.look_at_meta.Goals as goal
+
+pub returns-in_err-step-clause-err : goal.returns-in_err-step-clause-err
+returns-in_err-step-clause-err g c =
+    fails c.from_residual.result (λ e is. meta_failed c.args.layer c.in_err-step.field-0.0 e is c.in_err-step.ensures.err) c.from_residual.ensures.1
+
+pub returns-in_err-push-clause-err : goal.returns-in_err-push-clause-err
+returns-in_err-push-clause-err g c =
+    fails c.from_residual-in_err-push.result
+    (λ e is. ended_memory e is (meta_looked {before = c.args.trace.now.reads} c.args.layer c.in_ok-step.ensures.ok refl))
+    c.from_residual-in_err-push.ensures.1
+
+pub returns-clause-ok : goal.returns-clause-ok
+returns-clause-ok g c = meta_looked c.args.layer c.in_ok-step.ensures.ok c.in_ok-push.ensures.ok
