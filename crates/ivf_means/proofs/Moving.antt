@@ -1,10 +1,13 @@
 -- Centres that are changed one after the other, and those that are chosen so.
 use Rattle.std.proofs.Common.{◌≡◌, refl, sym, ap, ◌∙◌, subst, ℕ, zero, suc, ◌+◌, ◌-◌, ◌<◌, ◌≤◌, List, [], ◌∷◌, ◌++◌, append_assoc, length, get_or, set, take, drop, map, arith}
 use Rattle.std.specs.Prelude.{Bool}
-use Rattle.std.proofs.lemmas.List.{get_or-drop, drop_more, take_more_set, get_or-map, drop-drop, drop-set-lt}
+use Rattle.std.proofs.lemmas.List.{append-nil, take_all, drop_all, get_or-drop, drop_more, take_more_set, get_or-map, drop-drop, drop-set-lt}
 use Rattle.ivf_means.specs.declared.row.Row.{Row}
 use Rattle.ivf_means.specs.Places.{greatest_place}
-use Rattle.ivf_means.specs.Centres.{values_of, gap, farthest, with_farthest, recentred, recentred_from}
+use Rattle.ivf_means.specs.Centres.{values_of, gap, farthest, with_farthest, recentred, recentred_from, nearest, members, after_round}
+use Rattle.ivf_means.specs.Working.{assigned_to}
+use Rattle.std.specs.Prelude.{◌==◌, if◌then◌else◌}
+use Rattle.std.specs.List.{filter}
 
 pub value_at : (rows : List Row) (k : ℕ) (x : Row) → k < length rows → x ≡ get_or rows k x → get_or (values_of rows) k [] ≡ x.bits
 value_at rows k x h is = get_or-map (λ r. r.bits) rows k x [] h ∙ ap (λ (r : Row). r.bits) (sym is)
@@ -49,3 +52,28 @@ spread_step lists more rows cs all gaps next x h is place within at done =
     ap (λ k. get_or (values_of rows) k []) (sym (place ∙ ap greatest_place is)) ∙ value_at rows next x within at in
     let e : with_farthest (suc (lists - (more + 1))) (values_of rows) cs ≡ all = subst (λ k. with_farthest k (values_of rows) cs ≡ all) n done in
     ap (λ b. with_farthest (lists - (more + 1)) (values_of rows) (cs ++ b ∷ [])) (sym far) ∙ e
+
+assigned_is : (f : List Bool → ℕ) (list : ℕ) (vs : List (List Bool)) → assigned_to list (map f vs) vs ≡ filter (λ v. f v == list) vs
+assigned_is f list [] = refl
+assigned_is f list (v ∷ vs) = ap (λ (l : List (List Bool)). if f v == list then v ∷ l else l) (assigned_is f list vs)
+
+recentred_same : (m n : ℕ → List (List Bool)) → ((k : ℕ) → m k ≡ n k) → (list : ℕ) (cs : List (List Bool)) → recentred_from list m cs ≡ recentred_from list n cs
+recentred_same m n same list [] = refl
+recentred_same m n same list (c ∷ cs) =
+    ap (λ (l : List (List Bool)). recentred c l ∷ recentred_from (suc list) m cs) (same list)
+    ∙ ap (λ (l : List (List Bool)). recentred c (n list) ∷ l) (recentred_same m n same (suc list) cs)
+
+-- what is made of the nearest centres' numbers is a round
+pub round_is : (numbers : List ℕ) (values centres after : List (List Bool)) → after ≡ recentred_from 0 (λ list. assigned_to list numbers values) centres
+    → numbers ≡ map (nearest centres) values → after ≡ after_round values centres
+round_is numbers values centres after so is =
+    so
+    ∙ recentred_same (λ list. assigned_to list numbers values) (λ list. members centres list values)
+    (λ list. ap (λ (l : List ℕ). assigned_to list l values) is ∙ assigned_is (nearest centres) list values) 0 centres
+
+-- where each centre has been changed
+pub ended : (m : ℕ → List (List Bool)) (list : ℕ) (now was all : List (List Bool)) → length now ≤ list → length was ≤ list
+    → take list now ++ recentred_from list m (drop list was) ≡ all → now ≡ all
+ended m list now was all h k done =
+    sym (append-nil now) ∙ ap (λ (l : List (List Bool)). l ++ []) (sym (take_all list now h))
+    ∙ ap (λ (l : List (List Bool)). take list now ++ recentred_from list m l) (sym (drop_all list was k)) ∙ done

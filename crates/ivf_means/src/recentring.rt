@@ -1,9 +1,9 @@
 //! What becomes of the centres in a round.
 
-ghost use Rattle.std.specs.Prelude.{◌≡◌, ◌<◌, ◌≤◌, ◌+◌, ◌*◌, ◌^◌, ℕ, length, get_or, false, nat_lt};
+ghost use Rattle.std.specs.Prelude.{◌≡◌, ◌<◌, ◌≤◌, ◌+◌, ◌*◌, ◌^◌, ℕ, length, map, get_or, false, nat_lt};
 ghost use Rattle.std.specs.List.{All};
 ghost use Rattle.bit_code.specs.Places.{digit_of};
-ghost use Rattle.ivf_means.specs.Centres.{values_of, ones_at, recentred, recentred_from};
+ghost use Rattle.ivf_means.specs.Centres.{values_of, ones_at, recentred, recentred_from, nearest, after_round};
 ghost use Rattle.ivf_means.specs.Working.{HaveLength, RowsHaveLength, assigned_to, IsTally};
 
 use crate::Row;
@@ -18,6 +18,10 @@ pub fn recentre(centres: &mut [Bits], rows: &[Row], assigned: &[u32], ones: &mut
     requires rows { RowsHaveLength (length ones.old) rows.now }
     ensures centres { centres.new ≡ recentred_from 0 (λ list. assigned_to list assigned.now (values_of rows.now)) centres.old }
     ensures room { length ones.new ≡ length ones.old }
+
+    // With each row's nearest centre this is a round.
+    ensures round { assigned.now ≡ map (nearest centres.old) (values_of rows.now)
+        → centres.new ≡ after_round (values_of rows.now) centres.old }
 {
     for list in 0..centres.len() as u32 {
         recentre_one(&mut centres[list as usize], list, rows, assigned, ones);
