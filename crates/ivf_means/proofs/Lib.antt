@@ -1,0 +1,4 @@
+pub mod FirstPlaces
+pub mod Gaps
+pub mod Tallies
+pub mod Moving
