@@ -1,9 +1,16 @@
 -- The blocks that an event touches, as one or two.
-use Rattle.std.proofs.Common.{◌≡◌, ◌≢◌, ◌⊎◌, ◌<◌, ℕ, zero, suc, List, [], ◌∷◌, length, slice_get, slice_index_or, Contains, Option, Some, None, refl, sym, ap, subst, ◌∙◌, inl, inr, arith}
+use Rattle.std.proofs.Common.{◌≡◌, ◌≢◌, ◌⊎◌, ◌<◌, ℕ, zero, suc, List, [], ◌∷◌, length, slice_get, slice_index_or, Contains, Option, Some, None, refl, sym, ap, subst, ◌∙◌, inl, inr, arith, ◌==◌, Bool, true, false}
+use Rattle.std.proofs.lemmas.Bool.{eq-eqb, eqb-true}
 use Rattle.page_bytes.specs.Content.{Content}
 use Rattle.page_looks.specs.Sets.{PageMap, HasPages}
 use Rattle.page_commit.specs.declared.doing.Touched.{Touched}
 use Rattle.page_commit.specs.Committing.{IsOf, AreThese}
+
+pub same_or_other : (a b : ℕ) → (a ≡ b) ⊎ (a ≢ b)
+same_or_other a b = by (a == b) refl where
+  by : (t : Bool) → (a == b) ≡ t → (a ≡ b) ⊎ (a ≢ b)
+  by true e = inl (eqb-true _ _ e)
+  by false e = inr (λ same. let both : false ≡ true = sym e ∙ eq-eqb a b same in absurd cc)
 
 in_one : (a b : ℕ) → Contains (a ∷ []) b → b ≡ a
 in_one a b (zero, low, is) = sym is

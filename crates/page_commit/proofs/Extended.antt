@@ -6,12 +6,7 @@ use Rattle.std.proofs.lemmas.Option.{none-some, slice_get_within, slice_get_past
 use Rattle.page_bytes.specs.Content.{Content}
 use Rattle.page_looks.specs.Sets.{PageMap, IsPartOf, IsChangedTo}
 use Rattle.page_commit.specs.Committing.{IsExtended}
-
-same_or_other : (a b : ℕ) → (a ≡ b) ⊎ (a ≢ b)
-same_or_other a b = by (a == b) refl where
-  by : (t : Bool) → (a == b) ≡ t → (a ≡ b) ⊎ (a ≢ b)
-  by true e = inl (eqb-true _ _ e)
-  by false e = inr (λ same. let both : false ≡ true = sym e ∙ eq-eqb a b same in absurd cc)
+use Rattle.page_commit.proofs.Blocks.{same_or_other}
 
 pub extended_none : (set : PageMap) (blocks : ℕ) (fresh : Content) → IsExtended set set blocks blocks fresh
 extended_none set blocks fresh = record {

@@ -13,13 +13,8 @@ use Rattle.page_redo.proofs.Others.{set_apart}
 use Rattle.page_redo.proofs.Putting.{set_here}
 use Rattle.page_looks.specs.Sets.{PageMap, IsPartOf, IsChangedTo, IsRedone, redone_at}
 use Rattle.page_commit.specs.declared.doing.Touched.{Touched}
+use Rattle.page_commit.proofs.Blocks.{same_or_other}
 use Rattle.page_commit.specs.Committing.{IsOf, HasThese, FitThese, AreTheseRedone, IsRedoneSet}
-
-same_or_other : (a b : ℕ) → (a ≡ b) ⊎ (a ≢ b)
-same_or_other a b = by (a == b) refl where
-  by : (t : Bool) → (a == b) ≡ t → (a ≡ b) ⊎ (a ≢ b)
-  by true e = inl (eqb-true _ _ e)
-  by false e = inr (λ same. let both : false ≡ true = sym e ∙ eq-eqb a b same in absurd cc)
 
 then_some : {A B : Type 0} (f : A → Option B) (o : Option A) (y : B) → option_and_then f o ≡ Some y → (x : A) × (o ≡ Some x) × (f x ≡ Some y)
 then_some f None y e = absurd (none-some y e)

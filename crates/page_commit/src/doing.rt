@@ -78,14 +78,18 @@ fn block_of(block: u64) -> Option<Touched>
     Some(one(block as u32))
 }
 
-fn blocks_after(event: &Event, blocks: u32) -> u32
-    requires { blocks_after event.now blocks < 2 ^ 32 }
+/// How many blocks there are with those that an event makes, in an index with so many.
+pub fn blocks_after(event: &Event, blocks: u32) -> u64
     ensures told { result ≡ blocks_after event.now blocks }
     ensures upward { blocks ≤ result }
+    ensures few { blocks < 2 ^ 32 }
 {
+    let blocks = u64::from(blocks);
     match event {
-        Event::Put { at, list_at, .. } => { blocks.max((at.block + 1).max(list_at.block + 1)) }
-        Event::IvfGrow { block, .. } => blocks.max(block.saturating_add(1)),
+        Event::Put { at, list_at, .. } => {
+            blocks.max((u64::from(at.block) + 1).max(u64::from(list_at.block) + 1))
+        }
+        Event::IvfGrow { block, .. } => blocks.max(u64::from(*block) + 1),
         _ => blocks,
     }
 }
@@ -170,7 +174,7 @@ pub fn commit<P: PageSet>(
         → FitsEach all params.now event.now → IsOk result }
     ensures next { OnOk result (P.may_add pages.new (blocks_after event.now blocks)) }
 {
-    let upto = blocks_after(event, blocks);
+    let upto = blocks_after(event, blocks) as u32;
     let Some(touched) = touched_by(event, params) else {
         return Err(RedoFault::Unfit);
     };

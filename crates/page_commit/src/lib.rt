@@ -3,7 +3,7 @@
 
 mod doing;
 
-pub use doing::commit;
+pub use doing::{blocks_after, commit};
 
 #[cfg(test)]
 mod tests;

@@ -10,9 +10,8 @@ ghost use Rattle.vec_steps.specs.declared.fault.StepFault.TheVariants.{Memory};
 ghost use Rattle.vec_board.specs.Acting.{IsTaken, MayChange, IsChangeCause, IsChangeFault, IsSameSet, AreMade};
 
 use crate::board_core::Core;
-use crate::summary::blocks_after;
 use crate::writable::is_writable;
-use page_commit::commit;
+use page_commit::{blocks_after, commit};
 use page_looks::PageSet;
 use vec_event::event_size;
 use vec_history::{Event, is_lasting};

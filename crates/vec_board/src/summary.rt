@@ -5,6 +5,7 @@ ghost use Rattle.vec_history.specs.Settling.{is_lasting};
 ghost use Rattle.graph_pages.specs.Growing.{blocks_after};
 ghost use Rattle.vec_board.specs.Summaries.{summary_after};
 
+use page_commit::blocks_after;
 use vec_history::Event;
 use vec_names::Tid;
 
@@ -20,21 +21,6 @@ pub struct Summary {
     pub hint: u32,
     /// The number of nodes that have no rows left and are not deleted yet.
     pub doomed: u64,
-}
-
-/// The number of blocks with those that an event makes, in an index with so many.
-pub fn blocks_after(event: &Event, blocks: u32) -> u64
-    ensures told { result ≡ blocks_after event.now blocks }
-    ensures few { blocks < 2 ^ 32 }
-{
-    let blocks = u64::from(blocks);
-    match event {
-        Event::Put { at, list_at, .. } => {
-            blocks.max((u64::from(at.block) + 1).max(u64::from(list_at.block) + 1))
-        }
-        Event::IvfGrow { block, .. } => blocks.max(u64::from(*block) + 1),
-        _ => blocks,
-    }
 }
 
 /// The summary after an event, which leaves so many rows of the node if it is a Drop.
