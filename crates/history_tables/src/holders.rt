@@ -46,7 +46,7 @@ impl Holders {
         }
     }
 
-    /// Makes room for one more hold.
+    /// Makes room for so many holds more.
     pub fn reserve(&mut self, holds: usize) -> Result<(), AllocError>
         ensures same { self.new.held.items ≡ self.old.held.items }
         ensures room { OnOk result (vec_len self.new.held + holds ≤ vec_capacity self.new.held) }
