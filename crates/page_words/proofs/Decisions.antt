@@ -32,8 +32,8 @@ use Rattle.vec_steps.specs.Index.{OfNodes, OfLists}
 use Rattle.vec_steps.specs.Doing.{Ended, Relists, Drops, Marks, Adds, Extends, cleaned_events, placed_events, step_events, clear_reply, drop_reply, extend_reply}
 use Rattle.vec_steps.specs.Telling.{step_of, node_of, put_told, put_new_told, join_told, link_told, clear_told, drop_told, add_told, extend_told, place_told}
 use Rattle.vec_steps.specs.Calls.{made_by}
-use Rattle.page_looks.specs.Sets.{PageMap, HasPages}
-use Rattle.page_looks.specs.Telling.{read_on, next_on}
+use Rattle.page_sets.specs.Sets.{PageMap, HasPages}
+use Rattle.page_sets.specs.Telling.{read_on, next_on}
 use Rattle.page_words.specs.declared.making.Making.{Making}
 use Rattle.page_words.specs.declared.making.Making.TheVariants as making
 use Rattle.page_words.specs.Placing.{place_with}

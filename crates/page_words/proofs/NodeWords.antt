@@ -19,8 +19,8 @@ use Rattle.graph_search.specs.Insert.{most_in}
 use Rattle.graph_pages.specs.Standing.{element_in, links_in, node_with as made_of, Stands}
 use Rattle.graph_pages.proofs.RoleFits.{node_there, list_alike}
 use Rattle.vec_steps.specs.Doing.{Cleared, Outdated, clear_reply}
-use Rattle.page_looks.specs.Telling.{read_on}
-use Rattle.page_looks.proofs.NodeLooks.{read_there, node_from, no_node}
+use Rattle.page_sets.specs.Telling.{read_on}
+use Rattle.page_sets.proofs.NodeLooks.{read_there, node_from, no_node}
 use Rattle.page_words.specs.Deciding.{head_node, head_read, links_clear, links_link}
 
 module _ (pages : List Content) (g : Graph) (p : Params) (all : All IsPage pages) (s : Stands pages g) (same : g.params ≡ p) where

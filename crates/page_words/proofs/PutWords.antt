@@ -25,9 +25,9 @@ use Rattle.page_redo.specs.PageTuples.{in_whole}
 use Rattle.graph_pages.specs.Standing.{element_in, node_with as made_of, Stands}
 use Rattle.graph_pages.proofs.EntrySums.{Entry}
 use Rattle.graph_pages.proofs.PageRoom.{room_is, next_is}
-use Rattle.page_looks.specs.Telling.{items_on}
-use Rattle.page_looks.proofs.NodeLooks.{node_from, no_node}
-use Rattle.page_looks.proofs.PageNodes.{entry_of, entries_from, block_entries, element_there, nothing_behind}
+use Rattle.page_sets.specs.Telling.{items_on}
+use Rattle.page_sets.proofs.NodeLooks.{node_from, no_node}
+use Rattle.page_sets.proofs.PageNodes.{entry_of, entries_from, block_entries, element_there, nothing_behind}
 use Rattle.page_words.specs.Placing.{need_of_element, need_of_list, reused_head, reused_item, reused_from, fresh_together, fresh_apart, place_with}
 
 -- ---- a deleted element of the level

@@ -14,8 +14,8 @@ use Rattle.ivf_pages.proofs.Root.{in_range, entries_behind}
 use Rattle.ivf_pages.proofs.RowRoom.{taken_is}
 use Rattle.ivf_pages.proofs.RowsThere.{rows_there}
 use Rattle.vec_steps.specs.Doing.{Came, HasNoRoom, add_reply}
-use Rattle.page_looks.specs.Telling.{next_on as named_next}
-use Rattle.page_looks.proofs.RowLooks.{next_is}
+use Rattle.page_sets.specs.Telling.{next_on as named_next}
+use Rattle.page_sets.proofs.RowLooks.{next_is}
 use Rattle.page_words.specs.Deciding.{page_add}
 
 same_test : (a b c d : ℕ) → (a ≤ b → c ≤ d) → (c ≤ d → a ≤ b) → nat_le a b ≡ nat_le c d

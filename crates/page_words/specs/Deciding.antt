@@ -26,7 +26,7 @@ use Rattle.vec_steps.specs.declared.told.Word.TheVariants as word
 use Rattle.vec_steps.specs.Index.{Index}
 use Rattle.vec_steps.specs.Doing.{Step, Cleaned, Cleared, Outdated, Placed, Came, HasNoRoom, Says}
 use Rattle.vec_steps.specs.Telling.{node_of}
-use Rattle.page_looks.specs.Telling.{read_on}
+use Rattle.page_sets.specs.Telling.{read_on}
 use Rattle.page_words.specs.declared.making.Making.{Making}
 use Rattle.page_words.specs.declared.making.Making.TheVariants as making
 

@@ -12,7 +12,7 @@ ghost use Rattle.vec_steps.specs.Index.{OfNodes, OfLists};
 ghost use Rattle.vec_steps.specs.Doing.{Ended};
 ghost use Rattle.vec_steps.specs.Telling.{step_of};
 ghost use Rattle.vec_steps.specs.Calls.{made_by};
-ghost use Rattle.page_looks.specs.Sets.{HasPages};
+ghost use Rattle.page_sets.specs.Sets.{HasPages};
 ghost use Rattle.page_words.specs.Deciding.{asked_of, events_of, MayChange, MayChangeLists, IsOfNodes, IsOfLists, SaysNow};
 
 use crate::elements::{drop_rows, head_on, join, mark};
@@ -21,7 +21,7 @@ use crate::making::Making;
 use crate::places::PlaceAsk;
 use crate::puts::{put_new, put_on};
 use crate::rows::{add, extend};
-use page_looks::PageSet;
+use page_sets::PageSet;
 use vec_names::Params;
 use vec_steps::{Ask, Told, Word};
 

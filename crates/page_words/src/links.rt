@@ -10,7 +10,7 @@ ghost use Rattle.vec_tuples.specs.Reading.{links};
 ghost use Rattle.page_redo.specs.PageTuples.{in_whole};
 ghost use Rattle.graph_search.specs.Deeds.{is_still, is_same_slot, slot_in};
 ghost use Rattle.vec_steps.specs.Telling.{clear_told, link_told};
-ghost use Rattle.page_looks.specs.Telling.{read_on};
+ghost use Rattle.page_sets.specs.Telling.{read_on};
 ghost use Rattle.page_words.specs.Deciding.{links_clear, links_link, made_by_word, made_slot};
 
 use crate::making::Making;

@@ -9,7 +9,7 @@ ghost use Rattle.vec_names.specs.declared.heap_id.HeapId.{HeapId};
 ghost use Rattle.vec_steps.specs.declared.ask.Ask.TheVariants.{Extend};
 ghost use Rattle.vec_steps.specs.Doing.{Placed, Came, HasNoRoom, Extends, extend_reply, placed_events};
 ghost use Rattle.vec_steps.specs.Telling.{add_told, extend_told};
-ghost use Rattle.page_looks.specs.Telling.{next_on};
+ghost use Rattle.page_sets.specs.Telling.{next_on};
 ghost use Rattle.page_words.specs.Deciding.{made_by_word, events_of, page_add};
 
 use crate::making::Making;

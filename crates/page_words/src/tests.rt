@@ -6,7 +6,7 @@ ghost use Rattle.vec_names.specs.Params.{IsInRange};
 use crate::{Making, decide, event_of};
 use bit_code::{Bits, read_bits};
 use page_bytes::{Page, PageKind};
-use page_looks::{PageList, PageSet};
+use page_sets::{PageList, PageSet};
 use std::alloc::Global;
 use std::test::*;
 use vec_graph::Place;

@@ -19,8 +19,8 @@ use Rattle.vec_board.specs.Keeping.{one_if_ends}
 use Rattle.page_bytes.specs.Content.{Content}
 use Rattle.graph_pages.specs.Growing.{blocks_after}
 use Rattle.page_log.specs.Going.{Unsettled}
-use Rattle.page_looks.specs.Sets.{PageMap}
-use Rattle.page_commit.specs.Committing.{HasTouched}
+use Rattle.page_sets.specs.Sets.{PageMap}
+use Rattle.page_sets.specs.Committing.{HasTouched}
 use Rattle.vec_steps.specs.declared.fault.StepFault.{StepFault}
 use Rattle.vec_steps.specs.declared.fault.StepFault.TheVariants as fault
 use Rattle.vec_steps.specs.Index.{Index, OfNodes, OfLists, IsLegal, IsOfParams}

@@ -8,8 +8,8 @@ use Rattle.vec_event.specs.Spelling.{IsWritable}
 use Rattle.page_bytes.specs.Content.{Content}
 use Rattle.page_redo.specs.Redo.{touched}
 use Rattle.graph_pages.specs.Growing.{blocks_after}
-use Rattle.page_looks.specs.Sets.{PageMap, HasPages}
-use Rattle.page_commit.specs.Committing.{HasTouched, IsCommitted}
+use Rattle.page_sets.specs.Sets.{PageMap, HasPages}
+use Rattle.page_sets.specs.Committing.{HasTouched, IsCommitted}
 use Rattle.vec_board.specs.Acting.{IsSameSet, AreMade}
 
 same_has : (old new : PageMap) (all : List Content) (blocks : List ℕ) → IsSameSet old new → HasPages old all blocks → HasPages new all blocks

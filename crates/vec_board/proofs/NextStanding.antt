@@ -23,8 +23,8 @@ use Rattle.graph_law.specs.Counting.{one_if_none, doomed_count, added_at, added,
 use Rattle.graph_law.proofs.DoomedCount.{counted}
 use Rattle.page_bytes.specs.Content.{Content}
 use Rattle.graph_pages.specs.Growing.{blocks_after, new_kind, fresh_page}
-use Rattle.page_looks.specs.Sets.{PageMap}
-use Rattle.page_commit.proofs.Extended.{ext_longer}
+use Rattle.page_sets.specs.Sets.{PageMap}
+use Rattle.page_sets.proofs.Extended.{ext_longer}
 use Rattle.vec_steps.specs.Index.{Index, OfNodes, OfLists, IsShaped, IsLegal, IsOfParams}
 use Rattle.index_pages.specs.Standing.{AreOf, index_after}
 use Rattle.index_pages.proofs.Next.{nodes_last, stand_next, passing}

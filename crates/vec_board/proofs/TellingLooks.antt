@@ -13,8 +13,8 @@ use Rattle.ivf_graph.specs.declared.graph.IvfGraph.{IvfGraph}
 use Rattle.ivf_graph.specs.Effect as lists
 use Rattle.graph_pages.specs.Standing.{Stands}
 use Rattle.ivf_pages.specs.Standing.{Stands as StandsForLists}
-use Rattle.page_looks.specs.Sets.{PageMap, HasPages}
-use Rattle.page_looks.specs.Telling.{looked_at, MayLook, MayLookLists, TellsNodes, TellsLists}
+use Rattle.page_sets.specs.Sets.{PageMap, HasPages}
+use Rattle.page_sets.specs.Telling.{looked_at, MayLook, MayLookLists, TellsNodes, TellsLists}
 use Rattle.vec_steps.specs.declared.ask.Ask.{Ask}
 use Rattle.vec_steps.specs.declared.ask.Ask.TheVariants as ask
 use Rattle.vec_steps.specs.declared.told.Told.{Told}

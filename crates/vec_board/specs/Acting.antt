@@ -11,8 +11,8 @@ use Rattle.history_tables.specs.Telling.{Tells}
 use Rattle.page_bytes.specs.Content.{Content}
 use Rattle.graph_pages.specs.Growing.{blocks_after}
 use Rattle.graph_pages.specs.Fitting.{FitsEach}
-use Rattle.page_looks.specs.Sets.{PageMap}
-use Rattle.page_commit.specs.Committing.{HasTouched, IsCommitted}
+use Rattle.page_sets.specs.Sets.{PageMap}
+use Rattle.page_sets.specs.Committing.{HasTouched, IsCommitted}
 use Rattle.page_log.specs.declared.limits.TheConstants.{MOST_USED}
 use Rattle.page_log.specs.Going.{Unsettled}
 use Rattle.page_log.specs.Parts.{newer_of, unsettled, with_event}

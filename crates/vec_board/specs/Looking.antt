@@ -1,8 +1,8 @@
 -- Looks of a desk at the core of a board and at pages.
 use Rattle.std.specs.Prelude.{◌≡◌, ℕ, ⊤, List}
 use Rattle.page_bytes.specs.Content.{Content}
-use Rattle.page_looks.specs.Sets.{PageMap, HasPages}
-use Rattle.page_looks.specs.Telling.{looked_at}
+use Rattle.page_sets.specs.Sets.{PageMap, HasPages}
+use Rattle.page_sets.specs.Telling.{looked_at}
 use Rattle.vec_steps.specs.declared.ask.Ask.{Ask}
 use Rattle.vec_steps.specs.declared.ask.Ask.TheVariants as ask
 use Rattle.vec_steps.specs.Index.{Index}

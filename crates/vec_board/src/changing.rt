@@ -5,14 +5,13 @@ ghost use Rattle.vec_history.specs.Settling.{is_lasting};
 ghost use Rattle.page_bytes.specs.Content.{Content};
 ghost use Rattle.graph_pages.specs.Growing.{blocks_after};
 ghost use Rattle.graph_pages.specs.Fitting.{FitsEach};
-ghost use Rattle.page_commit.specs.Committing.{HasTouched, IsCommitted};
+ghost use Rattle.page_sets.specs.Committing.{HasTouched, IsCommitted};
 ghost use Rattle.vec_steps.specs.declared.fault.StepFault.TheVariants.{Memory};
 ghost use Rattle.vec_board.specs.Acting.{IsTaken, MayChange, IsChangeCause, IsChangeFault, IsSameSet, AreMade};
 
 use crate::board_core::Core;
 use crate::writable::is_writable;
-use page_commit::{blocks_after, commit};
-use page_looks::PageSet;
+use page_sets::{PageSet, blocks_after, commit};
 use vec_event::event_size;
 use vec_history::{Event, is_lasting};
 use vec_steps::{LOG_ROOM, StepFault};

@@ -23,7 +23,7 @@ use crate::board_core::Core;
 use crate::changing::not_allowed;
 use crate::summary::summary_after;
 use page_log::{Log, LogFault};
-use page_looks::PageSet;
+use page_sets::PageSet;
 use vec_history::{Event, is_lasting};
 use vec_steps::StepFault;
 

@@ -8,7 +8,7 @@ ghost use Rattle.vec_board.specs.Standing.{acts_of};
 ghost use Rattle.vec_board.specs.Looking.{IsLook, StandsBeside, TellsMeta, desk_of};
 
 use crate::board_core::Core;
-use page_looks::{PageSet, look};
+use page_sets::{PageSet, look};
 use std::alloc::Global;
 use vec_steps::{Ask, StepFault, Told, Word};
 

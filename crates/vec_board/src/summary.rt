@@ -5,7 +5,7 @@ ghost use Rattle.vec_history.specs.Settling.{is_lasting};
 ghost use Rattle.graph_pages.specs.Growing.{blocks_after};
 ghost use Rattle.vec_board.specs.Summaries.{summary_after};
 
-use page_commit::blocks_after;
+use page_sets::blocks_after;
 use vec_history::Event;
 use vec_names::Tid;
 

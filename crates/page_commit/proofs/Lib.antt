@@ -1,4 +1,0 @@
-pub mod Blocks
-pub mod Redone
-pub mod Extended
-pub mod Whole

@@ -1,2 +1,0 @@
--- Pages of a set after an event.
-pub mod Committing

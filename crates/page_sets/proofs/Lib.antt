@@ -1,0 +1,12 @@
+pub mod PageLists
+pub mod Shows
+pub mod ElementTold
+pub mod NodeLooks
+pub mod PageNodes
+pub mod RowLooks
+pub mod CentreLooks
+pub mod Looks
+pub mod Blocks
+pub mod Redone
+pub mod Extended
+pub mod Whole
