@@ -1,10 +1,10 @@
 -- What the marks say once the chains of so many lists were followed.
-use Rattle.std.proofs.Common.{◌≡◌, ◌⊎◌, ℕ, zero, suc, ◌+◌, ◌<◌, Bool, true, false, List, length, replicate, get_or, Option, Some, None, refl, sym, ap, subst, ◌∙◌, arith, inl, inr}
+use Rattle.std.proofs.Common.{◌≡◌, ◌⊎◌, ℕ, zero, suc, ◌+◌, ◌<◌, Bool, true, false, List, [], ◌∷◌, ◌++◌, length, replicate, get_or, drop, Option, Some, None, refl, sym, ap, subst, ◌∙◌, arith, inl, inr}
 use Rattle.std.specs.Prelude.{slice_get}
 use Rattle.std.specs.Option.{option_map, is_some}
-use Rattle.std.proofs.lemmas.Bool.{and_parts, both_ways, cases_lt, eq-eqb}
-use Rattle.std.proofs.lemmas.List.{length-replicate}
-use Rattle.std.proofs.lemmas.Option.{slice_get_within, slice_get-get_or, same_Some}
+use Rattle.std.proofs.lemmas.Bool.{and_parts, both_ways, cases_lt, eq-eqb, or_left, or_right}
+use Rattle.std.proofs.lemmas.List.{length-replicate, append_assoc, append-nil, drop_more, drop_all}
+use Rattle.std.proofs.lemmas.Option.{slice_get_within, slice_get-get_or, get_or_from_slice_get, same_Some}
 use Rattle.vec_names.specs.declared.params.Params.{Params}
 use Rattle.page_bytes.specs.Content.{Content}
 use Rattle.vec_tuples.specs.declared.centre.CentreTuple.{CentreTuple}
@@ -12,7 +12,7 @@ use Rattle.graph_pages.proofs.Given.{map_is}
 use Rattle.ivf_pages.specs.declared.marks.Mark.{Mark}
 use Rattle.ivf_pages.specs.declared.marks.Mark.TheVariants.{Nowhere, Once, Wrongly}
 use Rattle.ivf_pages.specs.Standing.{is_among, next_of, centre_in, chain_from, chain_of, chain_in, ends_at, has_aim}
-use Rattle.ivf_pages.specs.Walking.{is_last, is_met, stops_short, marked, marked_by, AreChanged, IsBelow, AreBelow, IsShared, IsStopped, IsSo, AreMarked, AreFirstTuples}
+use Rattle.ivf_pages.specs.Walking.{is_last, is_met, stops_short, marked, marked_by, AreChanged, IsBelow, AreBelow, IsShared, IsStopped, IsSo, AreMarked, AreFirstTuples, is_in_some, chains_of, AreChainsApart, IsNew}
 use Rattle.ivf_pages.proofs.Chains.{among_chain, entries_there}
 use Rattle.ivf_pages.proofs.Ended.{ends_among}
 use Rattle.ivf_pages.proofs.Walks.{last_is}
@@ -138,6 +138,30 @@ aim_is pages list t before after long below changed block =
     by_mark (Some m) is =
         mark_last list (is_among block (chain_from pages t.first)) (stops_short pages block (chain_from pages t.first)) m (below block m is) ends_within
 
+-- ---- chains that are apart
+
+some_at : (pages : List Content) (tuples : List CentreTuple) (i : ℕ) (t : CentreTuple) → slice_get tuples i ≡ Some t → (block : ℕ)
+    → is_among block (chain_from pages t.first) ≡ true → is_in_some block (chains_of pages tuples) ≡ true
+some_at pages [] i t is block within = absurd cc
+some_at pages (u ∷ tuples) zero t is block within =
+    or_left (is_among block (chain_from pages u.first)) (is_in_some block (chains_of pages tuples))
+    (ap (λ (v : CentreTuple). is_among block (chain_from pages v.first)) (same_Some u t is) ∙ within)
+some_at pages (u ∷ tuples) (suc i) t is block within =
+    or_right (is_among block (chain_from pages u.first)) (is_in_some block (chains_of pages tuples)) (some_at pages tuples i t is block within)
+
+-- no block stands in two of them
+apart_at : (pages : List Content) (tuples : List CentreTuple) (i j : ℕ) (a b : CentreTuple) → AreChainsApart (chains_of pages tuples)
+    → slice_get tuples i ≡ Some a → slice_get tuples j ≡ Some b → i < j → (block : ℕ) → is_among block (chain_from pages a.first) ≡ true
+    → is_among block (chain_from pages b.first) ≡ true → ⊥
+apart_at pages [] i j a b apart at_i at_j low block in_a in_b = absurd cc
+apart_at pages (t ∷ tuples) i zero a b apart at_i at_j low block in_a in_b = absurd (omega (arith, low))
+apart_at pages (t ∷ tuples) zero (suc j) a b apart at_i at_j low block in_a in_b =
+    both_ways (is_in_some block (chains_of pages tuples))
+    (apart.1 block (ap (λ (v : CentreTuple). is_among block (chain_from pages v.first)) (same_Some t a at_i) ∙ in_a))
+    (some_at pages tuples j b at_j block in_b)
+apart_at pages (t ∷ tuples) (suc i) (suc j) a b apart at_i at_j low block in_a in_b =
+    apart_at pages tuples i j a b apart.2 at_i at_j (omega (arith, low)) block in_a in_b
+
 -- ---- the lists one after the other
 
 -- the tuple of a list whose chain is followed
@@ -162,3 +186,44 @@ module _ (p : Params) (pages : List Content) (tuples : List CentreTuple) (list :
   pub aims_more : ((k : ℕ) → k < list → has_aim pages (centre_in p pages k) ≡ true) → has_aim pages (centre_in p pages list) ≡ true
       → (k : ℕ) → k < list + 1 → has_aim pages (centre_in p pages k) ≡ true
   aims_more before here k low = by_list p pages list (λ (j : ℕ). has_aim pages (centre_in p pages j) ≡ true) k low (λ h. before k h) here
+
+  -- no chain came by the list's blocks, where the chains are apart
+  pub new_here : AreChainsApart (chains_of pages tuples) → (marks : List Mark) → AreMarked p pages list marks → IsNew marks (chain_from pages t.first)
+  new_here apart marks marked block within =
+      let c = entries_there (slice_get pages block) (among_chain pages (Some t) block within) in
+      let m = get_or marks block Nowhere in
+      let is : slice_get marks block ≡ Some m = slice_get-get_or marks block Nowhere (omega (arith, slice_get_within pages block c.0 c.1, marked.long)) in
+      is ∙ ap (λ (k : Mark). Some k) (nowhere m (marked.so block m is))
+    where
+      other : (l : ℕ) → l < list → is_among block (chain_in p pages l) ≡ true → ⊥
+      other l low is =
+          let u = get_or tuples l t in
+          let at : slice_get tuples l ≡ Some u = slice_get-get_or tuples l t (omega (arith, low, n.low)) in
+          let same : chain_in p pages l ≡ chain_from pages u.first = ap (chain_of pages) (sym (n.first.there l (omega (arith, low, n.low))) ∙ at) in
+          apart_at pages tuples l list u t apart at n.is low block (sym (ap (is_among block) same) ∙ is) within
+
+      nowhere : (m : Mark) → IsSo p pages list block m → m ≡ Nowhere
+      nowhere Nowhere so = refl
+      nowhere (Once l) so = absurd (other l so.low so.within)
+      nowhere (Wrongly l) (low, inl s) = absurd (other s.list s.low s.within)
+      nowhere (Wrongly l) (low, inr s) =
+          absurd (other s.list s.low (ends_among block (chain_in p pages s.list)
+          (and_parts (ends_at block (chain_in p pages s.list)) (is_some (next_of (slice_get pages block))) s.short).0))
+
+  left_is : drop list tuples ≡ t ∷ drop (list + 1) tuples
+  left_is =
+      drop_more tuples list t n.low ∙ ap (λ (u : CentreTuple). u ∷ drop (list + 1) tuples) (get_or_from_slice_get tuples list t t n.is)
+
+  pub chains_more : (chains more : List (List ℕ)) (chain : List ℕ) → chains ++ chains_of pages (drop list tuples) ≡ chains_of pages tuples
+      → chain ≡ chain_from pages t.first → more ≡ chains ++ chain ∷ [] → more ++ chains_of pages (drop (list + 1) tuples) ≡ chains_of pages tuples
+  chains_more chains more chain so_far is adds =
+      ap (λ (cs : List (List ℕ)). cs ++ chains_of pages (drop (list + 1) tuples)) adds
+      ∙ append_assoc chains (chain ∷ []) (chains_of pages (drop (list + 1) tuples))
+      ∙ ap (λ (c : List ℕ). chains ++ c ∷ chains_of pages (drop (list + 1) tuples)) is
+      ∙ sym (ap (λ (ts : List CentreTuple). chains ++ chains_of pages ts) left_is) ∙ so_far
+
+-- all chains are there where no list is left
+pub all_chains : (pages : List Content) (tuples : List CentreTuple) (chains : List (List ℕ)) (list : ℕ) → length tuples ≡ list
+    → chains ++ chains_of pages (drop list tuples) ≡ chains_of pages tuples → chains ≡ chains_of pages tuples
+all_chains pages tuples chains list all so_far =
+    sym (append-nil chains) ∙ sym (ap (λ (ts : List CentreTuple). chains ++ chains_of pages ts) (drop_all list tuples (omega (arith, all)))) ∙ so_far

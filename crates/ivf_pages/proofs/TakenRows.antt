@@ -1,103 +1,66 @@
 -- Rows that are moved along a chain to where they belong.
-use Rattle.std.proofs.Common.{◌≡◌, ℕ, zero, suc, ◌<◌, ◌||◌, ◌==◌, not, Bool, true, false, List, [], ◌∷◌, ◌++◌, map, length, Option, Some, None, refl, sym, ap, ap₂, subst, ◌∙◌, arith}
-use Rattle.std.specs.Prelude.{slice_get, if◌then◌else◌}
-use Rattle.std.proofs.lemmas.Bool.{and_parts, eq-eqb, or_parts, not-true}
-use Rattle.std.proofs.lemmas.List.{append_assoc}
+use Rattle.std.proofs.Common.{◌≡◌, ℕ, ◌==◌, true, List, [], ◌∷◌, ◌++◌, map, length, Some, refl, sym, ap, ◌∙◌}
+use Rattle.std.specs.Prelude.{slice_get}
+use Rattle.std.proofs.lemmas.Bool.{both_ways, eq-eqb, eqb-true, false_from_ne_true, or_left, or_right}
+use Rattle.std.proofs.lemmas.List.{append_assoc, append-nil}
 use Rattle.vec_names.specs.declared.params.Params.{Params}
 use Rattle.page_bytes.specs.Content.{Content}
 use Rattle.ivf_graph.specs.Graph.{Row, Part}
-use Rattle.ivf_pages.specs.Standing.{is_among, has_entries, next_of, goes_to, followed, chain_from, rows_of, part_in}
-use Rattle.std.proofs.lemmas.Option.{slice_get_within}
-use Rattle.ivf_pages.specs.Walking.{IsEnded, HasRowsOf, AreOthersKept}
-use Rattle.ivf_pages.proofs.Chains.{entries_there}
+use Rattle.ivf_pages.specs.Standing.{is_among, rows_of, part_in}
+use Rattle.ivf_pages.specs.Walking.{HasRowsOf, AreOthersKept, AreDistinct}
 
--- So far the rows of some blocks of the chain were taken, the last first, and what is left of the chain ends.
-pub record IsTaking (pages : List Content) (first most : ℕ) (before now : List (List Row)) (to : Option ℕ) (chain : List Part) : Type 0 where
-  pub met : List ℕ
+-- The rows of these blocks of a chain are left to be taken, and are as they were.
+pub record IsTaking (blocks left : List ℕ) (before now : List (List Row)) (chain : List Part) : Type 0 where
   pub long : length now ≡ length before
-  pub ends : IsEnded pages most met to
-  pub among : (block : ℕ) → is_among block (chain_from pages first) ≡ (is_among block met || is_among block (followed pages most met to))
-  pub kept : AreOthersKept (λ block. is_among block met) before now
-  pub taken : (p : Params) → HasRowsOf p pages (λ block. is_among block (chain_from pages first)) before
-      → map (part_in p pages) (chain_from pages first) ≡ chain ++ map (part_in p pages) (followed pages most met to)
+  pub apart : AreDistinct left
+  pub within : (block : ℕ) → is_among block left ≡ true → is_among block blocks ≡ true
+  pub still : (block : ℕ) → is_among block left ≡ true → slice_get now block ≡ slice_get before block
+  pub others : AreOthersKept (λ block. is_among block blocks) before now
+  pub taken : (p : Params) (pages : List Content) → HasRowsOf p pages (λ block. is_among block blocks) before
+      → map (part_in p pages) blocks ≡ chain ++ map (part_in p pages) left
 
-swapped : (a e r : Bool) → (a || (e || r)) ≡ ((e || a) || r)
-swapped true true r = refl
-swapped true false r = refl
-swapped false true r = refl
-swapped false false r = refl
-
-module _ (pages : List Content) (first : ℕ) (before : List (List Row)) where
-  pub begun : IsEnded pages (length pages) [] (Some first) → IsTaking pages first (length pages) before before (Some first) []
-  begun ends = record {
-    met = [];
+module _ (blocks : List ℕ) (before : List (List Row)) where
+  pub begun : AreDistinct blocks → IsTaking blocks blocks before before []
+  begun apart = record {
     long = refl;
-    ends = ends;
-    among = λ block. refl;
-    kept = λ block out. refl;
-    taken = λ p has. refl;
+    apart = apart;
+    within = λ block is. is;
+    still = λ block is. refl;
+    others = λ block out. refl;
+    taken = λ p pages has. refl;
   }
 
-  -- a block of a chain has entries and was not met before
-  pub here : (most : ℕ) (met : List ℕ) (block : ℕ) → IsEnded pages most met (Some block) → goes_to pages met block ≡ true
-  here zero met block ends = absurd ends
-  here (suc most) met block ends = ends.0
+  -- the next block is one of the chain
+  pub next_within : (now : List (List Row)) (block : ℕ) (left : List ℕ) (chain : List Part) → IsTaking blocks (block ∷ left) before now chain
+      → is_among block blocks ≡ true
+  next_within now block left chain s = s.within block (or_left (block == block) (is_among block left) (eq-eqb block block refl))
 
   -- one block more
-  pub one_more : (most : ℕ) (now after : List (List Row)) (block : ℕ) (chain : List Part) (rows : List Row)
-      → IsTaking pages first (suc most) before now (Some block) chain → length after ≡ length now → slice_get now block ≡ Some rows
-      → AreOthersKept (λ b. block == b) now after
-      → IsTaking pages first most before after (next_of (slice_get pages block)) (chain ++ (block, rows) ∷ [])
-  one_more most now after block chain rows s long is kept =
-      let rest = followed pages most (block ∷ s.met) (next_of (slice_get pages block)) in
-      let opened : followed pages (suc most) s.met (Some block) ≡ block ∷ rest = ap (λ (g : Bool). if g then block ∷ rest else []) s.ends.0 in
-      let out : is_among block s.met ≡ false = not-true (is_among block s.met) (and_parts (has_entries (slice_get pages block)) (not (is_among block s.met)) s.ends.0).1 in
-      record {
-        met = block ∷ s.met;
+  pub one_more : (now after : List (List Row)) (block : ℕ) (left : List ℕ) (chain : List Part) (rows : List Row)
+      → IsTaking blocks (block ∷ left) before now chain → length after ≡ length now → slice_get now block ≡ Some rows
+      → AreOthersKept (λ b. block == b) now after → IsTaking blocks left before after (chain ++ (block, rows) ∷ [])
+  one_more now after block left chain rows s long is kept =
+      let here : is_among block (block ∷ left) ≡ true = or_left (block == block) (is_among block left) (eq-eqb block block refl) in record {
         long = long ∙ s.long;
-        ends = s.ends.1;
-        among = λ x. s.among x ∙ ap (λ (bs : List ℕ). is_among x s.met || is_among x bs) opened ∙ swapped (is_among x s.met) (block == x) (is_among x rest);
-        kept = λ x apart. let parts = or_parts (block == x) (is_among x s.met) apart in kept x parts.0 ∙ s.kept x parts.1;
-        taken = λ p has.
-            let within : is_among block (chain_from pages first) ≡ true =
-            s.among block ∙ ap (λ (bs : List ℕ). is_among block s.met || is_among block bs) opened
-            ∙ ap₂ (λ (a e : Bool). a || (e || is_among block rest)) out (eq-eqb block block refl) in
-            let own : rows_of p (slice_get pages block) ≡ rows = same_rows (sym (has block within) ∙ sym (s.kept block out) ∙ is) in
-            s.taken p has ∙ ap (λ (bs : List ℕ). chain ++ map (part_in p pages) bs) opened
-            ∙ ap (λ (r : List Row). chain ++ (block, r) ∷ map (part_in p pages) rest) own
-            ∙ sym (append_assoc chain ((block, rows) ∷ []) (map (part_in p pages) rest));
+        apart = s.apart.1;
+        within = λ x w. s.within x (or_right (block == x) (is_among x left) w);
+        still = λ x w.
+            kept x (false_from_ne_true (block == x) (λ same.
+            both_ways (is_among block left) s.apart.0 (ap (λ (n : ℕ). is_among n left) (eqb-true block x same) ∙ w)))
+            ∙ s.still x (or_right (block == x) (is_among x left) w);
+        others = λ x out.
+            kept x (false_from_ne_true (block == x) (λ same.
+            both_ways (is_among x blocks) out (ap (λ (n : ℕ). is_among n blocks) (sym (eqb-true block x same)) ∙ s.within block here)))
+            ∙ s.others x out;
+        taken = λ p pages has.
+            let own : rows_of p (slice_get pages block) ≡ rows = same_rows (sym (has block (s.within block here)) ∙ sym (s.still block here) ∙ is) in
+            s.taken p pages has ∙ ap (λ (r : List Row). chain ++ (block, r) ∷ map (part_in p pages) left) own
+            ∙ sym (append_assoc chain ((block, rows) ∷ []) (map (part_in p pages) left));
       }
     where
       same_rows : {a b : List Row} → Some a ≡ Some b → a ≡ b
       same_rows e = cc
 
-  nothing : (most : ℕ) (met : List ℕ) → followed pages most met None ≡ []
-  nothing zero met = refl
-  nothing (suc most) met = refl
-
-  append_nil : (chain : List Part) → chain ++ [] ≡ chain
-  append_nil [] = refl
-  append_nil (x ∷ xs) = ap (λ (ys : List Part). x ∷ ys) (append_nil xs)
-
-  pub all_taken : (most : ℕ) (now : List (List Row)) (chain : List Part) (s : IsTaking pages first most before now None chain) (p : Params)
-      → HasRowsOf p pages (λ block. is_among block (chain_from pages first)) before → chain ≡ map (part_in p pages) (chain_from pages first)
-  all_taken most now chain s p has =
-      sym (s.taken p has ∙ ap (λ (bs : List ℕ). chain ++ map (part_in p pages) bs) (nothing most s.met) ∙ append_nil chain)
-
-  -- with no step left the chain is at its end
-  pub at_end : (to : Option ℕ) (met : List ℕ) → IsEnded pages zero met to → to ≡ None
-  at_end None met ends = refl
-  at_end (Some b) met ends = absurd ends
-
-  -- blocks that are not of the chain keep their rows
-  pub others_kept : (most : ℕ) (now : List (List Row)) (to : Option ℕ) (chain : List Part) → IsTaking pages first most before now to chain
-      → AreOthersKept (λ block. is_among block (chain_from pages first)) before now
-  others_kept most now to chain s block out = s.kept block (or_parts (is_among block s.met) (is_among block (followed pages most s.met to)) (sym (s.among block) ∙ out)).0
-
-  -- the next block has rows
-  pub within_rows : (most : ℕ) (now : List (List Row)) (to : Option ℕ) (block : ℕ) (chain : List Part) → IsTaking pages first most before now to chain → to ≡ Some block
-      → length before ≡ length pages → block < length now
-  within_rows most now to block chain s is long =
-      let goes = here most s.met block (subst (λ (o : Option ℕ). IsEnded pages most s.met o) is s.ends) in
-      let c = entries_there (slice_get pages block) (and_parts (has_entries (slice_get pages block)) (not (is_among block s.met)) goes).0 in
-      omega (arith, slice_get_within pages block c.0 c.1, s.long, long)
+  pub all_taken : (now : List (List Row)) (chain : List Part) → IsTaking blocks [] before now chain → (p : Params) (pages : List Content)
+      → HasRowsOf p pages (λ block. is_among block blocks) before → chain ≡ map (part_in p pages) blocks
+  all_taken now chain s p pages has = sym (s.taken p pages has ∙ append-nil chain)

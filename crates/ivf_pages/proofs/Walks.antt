@@ -1,16 +1,17 @@
 -- A chain as it is followed from block to block, and the marks that it leaves.
-use Rattle.std.proofs.Common.{◌≡◌, ℕ, zero, suc, ◌&&◌, ◌||◌, ◌==◌, not, Bool, true, false, List, [], ◌∷◌, length, get_or, Option, Some, None, refl, sym, ap, ap₂, ◌∙◌, arith}
+use Rattle.std.proofs.Common.{◌≡◌, ℕ, zero, suc, ◌&&◌, ◌||◌, ◌==◌, not, Bool, true, false, List, [], ◌∷◌, ◌++◌, length, get_or, Option, Some, None, refl, sym, ap, ap₂, ◌∙◌, arith}
 use Rattle.std.specs.Prelude.{slice_get, if◌then◌else◌}
 use Rattle.std.specs.Option.{option_map, is_some}
 use Rattle.std.proofs.lemmas.Bool.{and_parts, eq-eqb, ne_eqb, eqb-true, not-true}
 use Rattle.std.proofs.lemmas.Option.{slice_get_within, slice_get-get_or, same_Some}
+use Rattle.std.proofs.lemmas.List.{append_assoc, append-nil}
 use Rattle.page_bytes.specs.Content.{Content}
 use Rattle.page_redo.specs.PageChanges.{when}
 use Rattle.graph_pages.proofs.Given.{when_is}
 use Rattle.ivf_pages.specs.declared.marks.Mark.{Mark}
 use Rattle.ivf_pages.specs.declared.marks.Mark.TheVariants.{Nowhere, Once, Wrongly}
 use Rattle.ivf_pages.specs.Standing.{is_among, has_entries, next_of, goes_to, followed, chain_from, ends_at}
-use Rattle.ivf_pages.specs.Walking.{is_last, is_met, visited, visited_at, is_here, stopped, stops_short, marked, marked_by, arrived, AreChanged, IsBelow, AreBelow}
+use Rattle.ivf_pages.specs.Walking.{is_last, is_met, IsNew, visited, visited_at, is_here, stopped, stops_short, marked, marked_by, arrived, AreChanged, IsBelow, AreBelow}
 use Rattle.ivf_pages.proofs.Chains.{entries_there}
 use Rattle.ivf_pages.proofs.MarkChanges.{after_two, unchanged}
 
@@ -31,13 +32,15 @@ abbrev pub passed_by : ℕ → List ℕ → ℕ → Mark → Mark
 passed_by list met block m = passed list (is_among block met) m
 
 -- So far the chain met some blocks, the last first, and these are marked. It came from the last of them, and goes to the next block.
-pub record IsFollowing (pages : List Content) (list first most : ℕ) (before now : List Mark) (from to : Option ℕ) : Type 0 where
+-- Those that no other chain met are told, in their order.
+pub record IsFollowing (pages : List Content) (list first most : ℕ) (before now : List Mark) (from to : Option ℕ) (told : List ℕ) : Type 0 where
   pub met : List ℕ
   pub among : (block : ℕ) → is_among block (chain_from pages first) ≡ (is_among block met || is_among block (followed pages most met to))
   pub ends : (block : ℕ) → ends_at block (chain_from pages first) ≡ ends_behind block met (followed pages most met to)
   pub marks : AreChanged (passed_by list met) before now
   pub from_is : from ≡ latest met
   pub to_is : (block : ℕ) → from ≡ Some block → to ≡ next_of (slice_get pages block)
+  pub told_is : IsNew before (chain_from pages first) → chain_from pages first ≡ told ++ followed pages most met to
 
 -- ---- tests
 
@@ -66,7 +69,7 @@ module _ (pages : List Content) (list first : ℕ) (before : List Mark) where
   first_ends block [] = refl
   first_ends block (b ∷ bs) = refl
 
-  pub begun : IsFollowing pages list first (length pages) before before None (Some first)
+  pub begun : IsFollowing pages list first (length pages) before before None (Some first) []
   begun = record {
     met = [];
     among = λ block. refl;
@@ -74,6 +77,7 @@ module _ (pages : List Content) (list first : ℕ) (before : List Mark) where
     marks = unchanged (passed_by list []) before (λ block m is. refl);
     from_is = refl;
     to_is = λ block is. absurd cc;
+    told_is = λ new. refl;
   }
 
   module _ (below : AreBelow list before) (long : length before ≡ length pages) (now : List Mark) (met : List ℕ) (marks : AreChanged (passed_by list met) before now) where
@@ -122,10 +126,11 @@ module _ (pages : List Content) (list first : ℕ) (before : List Mark) where
   twice m true false apart = refl
   twice m false a apart = refl
 
-  pub one_more : (most : ℕ) (now after : List Mark) (from to : Option ℕ) (block : ℕ) → AreBelow list before → length before ≡ length pages
-      → IsFollowing pages list first (suc most) before now from to → arrived pages list now to ≡ Some block → AreChanged (visited_at list block) now after
-      → IsFollowing pages list first most before after (Some block) (next_of (slice_get pages block))
-  one_more most now after from to block below long s is visited =
+  pub one_more : (most : ℕ) (now after : List Mark) (from to : Option ℕ) (block : ℕ) (told more : List ℕ) → AreBelow list before → length before ≡ length pages
+      → IsFollowing pages list first (suc most) before now from to told → arrived pages list now to ≡ Some block → AreChanged (visited_at list block) now after
+      → (slice_get now block ≡ Some Nowhere → more ≡ told ++ block ∷ [])
+      → IsFollowing pages list first most before after (Some block) (next_of (slice_get pages block)) more
+  one_more most now after from to block told more below long s is visited adds =
       let at = arrived_at below long now s.met s.marks to block is in
       let rest = followed pages most (block ∷ s.met) (next_of (slice_get pages block)) in
       let opened : followed pages (suc most) s.met to ≡ block ∷ rest =
@@ -139,6 +144,14 @@ module _ (pages : List Content) (list first : ℕ) (before : List Mark) where
             (λ x m there. twice m (block == x) (is_among x s.met) (λ same. ap (λ (n : ℕ). is_among n s.met) (sym (eqb-true block x same)) ∙ out));
         from_is = refl;
         to_is = λ x same. ap (λ (n : ℕ). next_of (slice_get pages n)) (same_Some block x same);
+        told_is = λ new.
+            let within : is_among block (chain_from pages first) ≡ true =
+            s.among block ∙ ap (λ (bs : List ℕ). is_among block s.met || is_among block bs) opened
+            ∙ ap₂ (λ (a e : Bool). a || (e || is_among block rest)) out (eq-eqb block block refl) in
+            let nowhere : slice_get now block ≡ Some Nowhere =
+            s.marks.marks block ∙ ap (option_map (passed_by list s.met block)) (new block within) ∙ ap (λ (w : Bool). Some (passed list w Nowhere)) out in
+            s.told_is new ∙ ap (λ (bs : List ℕ). told ++ bs) opened ∙ sym (append_assoc told (block ∷ []) rest)
+            ∙ ap (λ (bs : List ℕ). bs ++ rest) (sym (adds nowhere));
       }
 
   -- ---- the end
@@ -152,9 +165,14 @@ module _ (pages : List Content) (list first : ℕ) (before : List Mark) where
       by_test true e = ap (λ (o : Option ℕ). (b == x) && is_some o) (leads b refl ∙ ap (λ (n : ℕ). next_of (slice_get pages n)) (eqb-true b x e))
       by_test false e = ap (λ (t : Bool). t && is_some to) e ∙ sym (ap (λ (t : Bool). t && is_some (next_of (slice_get pages x))) e)
 
-  pub done : (most : ℕ) (now after : List Mark) (from to : Option ℕ) (s : IsFollowing pages list first most before now from to)
+  -- then all are told, where no other chain met one
+  pub all_told : (most : ℕ) (now : List Mark) (from to : Option ℕ) (told : List ℕ) (s : IsFollowing pages list first most before now from to told)
+      → followed pages most s.met to ≡ [] → IsNew before (chain_from pages first) → told ≡ chain_from pages first
+  all_told most now from to told s none new = sym (s.told_is new ∙ ap (λ (bs : List ℕ). told ++ bs) none ∙ append-nil told)
+
+  pub done : (most : ℕ) (now after : List Mark) (from to : Option ℕ) (told : List ℕ) (s : IsFollowing pages list first most before now from to told)
       → followed pages most s.met to ≡ [] → AreChanged (stopped list from to) now after → AreChanged (marked_by pages list (chain_from pages first)) before after
-  done most now after from to s none stops =
+  done most now after from to told s none stops =
       after_two (passed_by list s.met) (stopped list from to) (marked_by pages list (chain_from pages first)) before now after s.marks stops
       (λ x m there.
       let within : is_among x s.met ≡ is_among x (chain_from pages first) =

@@ -1,4 +1,4 @@
--- Where no block breaks a rule, the chains end and are apart, and the rows that were read are those of their blocks.
+-- Where no block breaks a rule, the chains are apart, and the rows that were read are those of their blocks.
 use Rattle.std.proofs.Common.{◌≡◌, ◌⊎◌, ℕ, suc, ◌+◌, ◌<◌, true, List, [], ◌∷◌, length, Some, refl, sym, ap, ◌∙◌, arith, inl, inr}
 use Rattle.std.specs.Prelude.{slice_get}
 use Rattle.std.proofs.lemmas.Bool.{or_cases, false_from_ne_true}
@@ -11,19 +11,19 @@ use Rattle.ivf_graph.specs.Graph.{Row}
 use Rattle.page_redo.specs.PageTuples.{is_entries_page}
 use Rattle.page_redo.specs.PageChanges.{list_block}
 use Rattle.ivf_pages.specs.Standing.{params_in, is_among, has_entries, next_of, centre_in, chain_from, chain_of, chain_in, ends_at, has_aim, lists_end, rows_of, KeepsRulesOf, IsEntryPage}
-use Rattle.ivf_pages.specs.Walking.{IsEnded, is_in_some, AreChainsWhole, HasRows, HasRowsOf, AreFirstTuples}
-use Rattle.ivf_pages.proofs.Chains.{among_chain, entries_there}
+use Rattle.ivf_pages.specs.Walking.{IsEnded, is_in_some, chains_of, AreChainsApart, HasRows, HasRowsOf, AreFirstTuples}
+use Rattle.ivf_pages.proofs.Chains.{among_chain, entries_there, distinct_chain}
 use Rattle.ivf_pages.proofs.Ended.{ended, ends_among}
 use Rattle.ivf_pages.proofs.Root.{entries_past, list_block_low}
 
 -- the tuple in whose chain a block stands
-owner : (pages : List Content) (block : ℕ) (tuples : List CentreTuple) → is_in_some pages block tuples ≡ true
+owner : (pages : List Content) (block : ℕ) (tuples : List CentreTuple) → is_in_some block (chains_of pages tuples) ≡ true
     → (i : ℕ) × (t : CentreTuple) × (slice_get tuples i ≡ Some t) × (is_among block (chain_from pages t.first) ≡ true)
 owner pages block [] is = absurd cc
-owner pages block (t ∷ tuples) is = by_case (or_cases (is_among block (chain_from pages t.first)) (is_in_some pages block tuples) is) (λ e. owner pages block tuples e)
+owner pages block (t ∷ tuples) is = by_case (or_cases (is_among block (chain_from pages t.first)) (is_in_some block (chains_of pages tuples)) is) (λ e. owner pages block tuples e)
   where
-    by_case : (is_among block (chain_from pages t.first) ≡ true) ⊎ (is_in_some pages block tuples ≡ true)
-        → (is_in_some pages block tuples ≡ true → (i : ℕ) × (u : CentreTuple) × (slice_get tuples i ≡ Some u) × (is_among block (chain_from pages u.first) ≡ true))
+    by_case : (is_among block (chain_from pages t.first) ≡ true) ⊎ (is_in_some block (chains_of pages tuples) ≡ true)
+        → (is_in_some block (chains_of pages tuples) ≡ true → (i : ℕ) × (u : CentreTuple) × (slice_get tuples i ≡ Some u) × (is_among block (chain_from pages u.first) ≡ true))
         → (i : ℕ) × (u : CentreTuple) × (slice_get (t ∷ tuples) i ≡ Some u) × (is_among block (chain_from pages u.first) ≡ true)
     by_case (inl here) later = (0, t, refl, here)
     by_case (inr there) later = let o = later there in (suc o.0, o.1, o.2, o.3)
@@ -56,15 +56,15 @@ module _ (p : Params) (pages : List Content) (range : IsInRange p) (known : para
       let page = page_of a block is in page.3.in_one.only a low is ∙ sym (page.3.in_one.only b also is_too)
 
   chains_from : (tuples : List CentreTuple) (k : ℕ) → k + length tuples ≡ p.lists
-      → ((i : ℕ) (t : CentreTuple) → slice_get tuples i ≡ Some t → centre_in p pages (k + i) ≡ Some t) → AreChainsWhole pages tuples
+      → ((i : ℕ) (t : CentreTuple) → slice_get tuples i ≡ Some t → centre_in p pages (k + i) ≡ Some t) → AreChainsApart (chains_of pages tuples)
   chains_from [] k count are = tt
   chains_from (t ∷ tuples) k count are =
       let none : k + 0 ≡ k = omega arith in
       let next : (i : ℕ) → k + suc i ≡ k + 1 + i = λ i. omega arith in
       let low : k < p.lists = omega (arith, count) in
       let here : centre_in p pages k ≡ Some t = ap (centre_in p pages) (sym none) ∙ are 0 t refl in (
-        chain_ended k t low here,
-        λ block within. false_from_ne_true (is_in_some pages block tuples) (λ others.
+        distinct_chain pages t.first,
+        λ block within. false_from_ne_true (is_in_some block (chains_of pages tuples)) (λ others.
             let o = owner pages block tuples others in
             let at : centre_in p pages (k + suc o.0) ≡ Some o.1 = are (suc o.0) o.1 o.2 in
             let high : o.0 < length tuples = slice_get_within tuples o.0 o.1 o.2 in
@@ -75,15 +75,25 @@ module _ (p : Params) (pages : List Content) (range : IsInRange p) (known : para
         chains_from tuples (k + 1) (omega (arith, count)) (λ i u is. ap (centre_in p pages) (sym (next i)) ∙ are (suc i) u is),
       )
 
-  pub chains_whole : (tuples : List CentreTuple) → AreFirstTuples p pages tuples → length tuples ≡ p.lists → AreChainsWhole pages tuples
-  chains_whole tuples first all =
+  pub chains_apart : (tuples : List CentreTuple) → AreFirstTuples p pages tuples → length tuples ≡ p.lists → AreChainsApart (chains_of pages tuples)
+  chains_apart tuples first all =
       chains_from tuples 0 (omega (arith, all)) (λ i t is.
       let same : 0 + i ≡ i = omega arith in
       ap (centre_in p pages) same ∙ sym (first.there i (slice_get_within tuples i t is)) ∙ is)
 
+  -- each block of the chains is there
+  pub chains_there : (tuples : List CentreTuple) → AreFirstTuples p pages tuples → (block : ℕ) → is_in_some block (chains_of pages tuples) ≡ true
+      → block < length pages
+  chains_there tuples first block within =
+      let o = owner pages block tuples within in
+      let low = slice_get_within tuples o.0 o.1 o.2 in
+      let at : centre_in p pages o.0 ≡ Some o.1 = sym (first.there o.0 low) ∙ o.2 in
+      let page = page_of o.0 block (ap (λ c. is_among block (chain_of pages c)) at ∙ o.3) in
+      slice_get_within pages block page.0 page.1
+
   -- the rows of all blocks of chains were read
   pub rows_read : (tuples : List CentreTuple) (rows : List (List Row)) → AreFirstTuples p pages tuples → HasRows p pages (length pages) rows
-      → HasRowsOf p pages (λ block. is_in_some pages block tuples) rows
+      → HasRowsOf p pages (λ block. is_in_some block (chains_of pages tuples)) rows
   rows_read tuples rows first has block within =
       let o = owner pages block tuples within in
       let low = slice_get_within tuples o.0 o.1 o.2 in

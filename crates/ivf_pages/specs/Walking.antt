@@ -1,5 +1,5 @@
 -- What is kept of the blocks while the chains of the lists are followed, that of list 0 first; and what is found then.
-use Rattle.std.specs.Prelude.{◌≡◌, ◌≢◌, ℕ, zero, suc, ◌<◌, ◌≤◌, ◌+◌, ◌&&◌, ◌||◌, ◌==◌, ◌⊎◌, ⊤, if◌then◌else◌, not, Bool, true, false, List, [], ◌∷◌, length, slice_get, Option, Some, None, Result, Ok, Err}
+use Rattle.std.specs.Prelude.{◌≡◌, ◌≢◌, ℕ, zero, suc, ◌<◌, ◌≤◌, ◌+◌, ◌&&◌, ◌||◌, ◌==◌, ◌⊎◌, ⊤, if◌then◌else◌, not, Bool, true, false, List, [], ◌∷◌, length, map, slice_get, Option, Some, None, Result, Ok, Err}
 use Rattle.std.specs.List.{list_all, list_any, filter_map}
 use Rattle.std.specs.Option.{option_map, is_some}
 use Rattle.vec_names.specs.declared.params.Params.{Params}
@@ -25,6 +25,13 @@ is_last list (Wrongly l) = l == list
 abbrev pub is_met : ℕ → Option Mark → Bool
 is_met list None = false
 is_met list (Some m) = is_last list m
+
+-- no chain came by
+abbrev pub is_new : Option Mark → Bool
+is_new None = false
+is_new (Some Nowhere) = true
+is_new (Some (Once l)) = false
+is_new (Some (Wrongly l)) = false
 
 -- a block by which the chain of a list comes
 abbrev pub visited : ℕ → Mark → Mark
@@ -203,17 +210,28 @@ reaches pages (suc most) block (Some b) = b == block || reaches pages most block
 
 -- ---- chains that are built
 
--- the block stands in the chain of one of the tuples
-abbrev pub is_in_some : List Content → ℕ → List CentreTuple → Bool
-is_in_some pages block tuples = list_any (λ (t : CentreTuple). is_among block (chain_from pages t.first)) tuples
+-- the chains of the lists that have these tuples
+abbrev pub chains_of : List Content → List CentreTuple → List (List ℕ)
+chains_of pages tuples = map (λ (t : CentreTuple). chain_from pages t.first) tuples
 
--- each chain ends where there is no next block, and no block stands in two of them
-abbrev pub AreChainsWhole : List Content → List CentreTuple → Type 0
-AreChainsWhole pages [] = ⊤
-AreChainsWhole pages (t ∷ tuples) =
-    IsEnded pages (length pages) [] (Some t.first)
-    × ((block : ℕ) → is_among block (chain_from pages t.first) ≡ true → is_in_some pages block tuples ≡ false)
-    × AreChainsWhole pages tuples
+-- the block stands in one of the chains
+abbrev pub is_in_some : ℕ → List (List ℕ) → Bool
+is_in_some block chains = list_any (is_among block) chains
+
+-- no block stands in a chain twice
+abbrev pub AreDistinct : List ℕ → Type 0
+AreDistinct [] = ⊤
+AreDistinct (block ∷ blocks) = (is_among block blocks ≡ false) × AreDistinct blocks
+
+-- no block stands in a chain twice, or in two of the chains
+abbrev pub AreChainsApart : List (List ℕ) → Type 0
+AreChainsApart [] = ⊤
+AreChainsApart (chain ∷ chains) =
+    AreDistinct chain × ((block : ℕ) → is_among block chain ≡ true → is_in_some block chains ≡ false) × AreChainsApart chains
+
+-- no chain came by a block of this chain
+abbrev pub IsNew : List Mark → List ℕ → Type 0
+IsNew marks chain = (block : ℕ) → is_among block chain ≡ true → slice_get marks block ≡ Some Nowhere
 
 -- the rows of a block, where it is among some
 abbrev pub HasRowsOf : Params → List Content → (ℕ → Bool) → List (List Row) → Type 0

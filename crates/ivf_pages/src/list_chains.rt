@@ -1,54 +1,55 @@
-//! The lists of an index of which no block breaks a rule, built from their tuples and the rows of their blocks.
+//! The lists of an index of which no block breaks a rule, built from their tuples, their chains and the rows of their blocks.
 
-ghost use Rattle.std.specs.Prelude.{◌≡◌, ◌==◌, ℕ, ◌≤◌, ◌<◌, ◌^◌, [], Some, IfOk, length, map, slice_get, vec_len};
+ghost use Rattle.std.specs.Prelude.{◌≡◌, ◌==◌, ℕ, ◌≤◌, ◌<◌, ◌^◌, [], true, List, Some, IfOk, length, map, slice_get, vec_len};
 ghost use Rattle.vec_names.specs.declared.params.Params.{Params as AnyParams};
+ghost use Rattle.page_bytes.specs.Content.{Content};
 ghost use Rattle.ivf_pages.specs.Standing.{is_among, chain_from, part_in, list_with};
-ghost use Rattle.ivf_pages.specs.Walking.{is_in_some, HasRowsOf, AreOthersKept, IsEnded, AreChainsWhole};
+ghost use Rattle.ivf_pages.specs.Walking.{is_in_some, chains_of, HasRowsOf, AreOthersKept, AreDistinct, AreChainsApart};
 
-use crate::walking::next_of;
 use bit_code::Bits;
 use ivf_graph::IvfList;
-use page_bytes::Page;
 use std::alloc::{AllocError, Global};
 use std::mem;
 use vec_names::{HeapId, Listed};
 use vec_tuples::CentreTuple;
 
-/// The lists that have these tuples. The rows of their blocks are moved from where they were read to, and not copied.
+/// The lists that have these tuples and these chains. The rows of their blocks are moved from where they were read to, and not copied.
 pub fn lists_of(
     alloc: Global,
-    pages: &[Page],
     tuples: Listed<CentreTuple>,
+    chains: &[Listed<u32>],
     rows: &mut Vec<Listed<(HeapId, Bits)>>,
 ) -> Result<Listed<IvfList>, AllocError>
-    requires whole { AreChainsWhole pages.now tuples }
-    requires long { vec_len rows.old ≡ length pages.now }
-    ensures { IfOk result (λ lists. (p : AnyParams) → HasRowsOf p pages.now (λ block. is_in_some pages.now block tuples) rows.old.items
-        → lists ≡ map (list_with p pages.now) tuples) }
+    requires count { length chains.now ≡ length tuples }
+    requires apart { AreChainsApart chains.now }
+    requires there { (block : ℕ) → is_in_some block chains.now ≡ true → block < vec_len rows.old }
+    ensures { IfOk result (λ lists. (p : AnyParams) (pages : List Content) → chains.now ≡ chains_of pages tuples
+        → HasRowsOf p pages (λ block. is_in_some block chains.now) rows.old.items → lists ≡ map (list_with p pages) tuples) }
 {
     let mut lists = Listed::new(alloc);
+    let mut i = 0;
     for tuple in tuples.into_vec() {
-        let list = list_of(alloc, pages, tuple, rows)?;
+        let list = list_of(alloc, tuple, chains[i].as_slice(), rows)?;
         lists.push(list)?;
+        i += 1;
     }
     Ok(lists)
 }
 
 fn list_of(
     alloc: Global,
-    pages: &[Page],
     tuple: CentreTuple,
+    blocks: &[u32],
     rows: &mut Vec<Listed<(HeapId, Bits)>>,
 ) -> Result<IvfList, AllocError>
-    requires ended { IsEnded pages.now (length pages.now) [] (Some tuple.first) }
-    requires long { vec_len rows.old ≡ length pages.now }
-    ensures list { IfOk result (λ list. (p : AnyParams)
-        → HasRowsOf p pages.now (λ block. is_among block (chain_from pages.now tuple.first)) rows.old.items
-        → list ≡ list_with p pages.now tuple) }
-    ensures others { AreOthersKept (λ block. is_among block (chain_from pages.now tuple.first)) rows.old.items rows.new.items }
+    requires apart { AreDistinct blocks.now }
+    requires there { (block : ℕ) → is_among block blocks.now ≡ true → block < vec_len rows.old }
+    ensures list { IfOk result (λ list. (p : AnyParams) (pages : List Content) → blocks.now ≡ chain_from pages tuple.first
+        → HasRowsOf p pages (λ block. is_among block blocks.now) rows.old.items → list ≡ list_with p pages tuple) }
+    ensures others { AreOthersKept (λ block. is_among block blocks.now) rows.old.items rows.new.items }
     ensures long { vec_len rows.new ≡ vec_len rows.old }
 {
-    let chain = chain_of(alloc, pages, tuple.first, rows)?;
+    let chain = chain_of(alloc, blocks, rows)?;
     Ok(IvfList {
         centre: tuple.bits,
         aim: tuple.aim,
@@ -56,30 +57,24 @@ fn list_of(
     })
 }
 
-/// The blocks of the chain that begins at one, with their rows. What ends it is that there is no next block.
+/// The blocks of a chain with their rows.
 fn chain_of(
     alloc: Global,
-    pages: &[Page],
-    first: u32,
+    blocks: &[u32],
     rows: &mut Vec<Listed<(HeapId, Bits)>>,
 ) -> Result<Listed<(u32, Listed<(HeapId, Bits)>)>, AllocError>
-    requires ended { IsEnded pages.now (length pages.now) [] (Some first) }
-    requires long { vec_len rows.old ≡ length pages.now }
-    ensures chain { IfOk result (λ chain. (p : AnyParams)
-        → HasRowsOf p pages.now (λ block. is_among block (chain_from pages.now first)) rows.old.items
-        → chain ≡ map (part_in p pages.now) (chain_from pages.now first)) }
-    ensures others { AreOthersKept (λ block. is_among block (chain_from pages.now first)) rows.old.items rows.new.items }
+    requires apart { AreDistinct blocks.now }
+    requires there { (block : ℕ) → is_among block blocks.now ≡ true → block < vec_len rows.old }
+    ensures chain { IfOk result (λ chain. (p : AnyParams) (pages : List Content)
+        → HasRowsOf p pages (λ block. is_among block blocks.now) rows.old.items → chain ≡ map (part_in p pages) blocks.now) }
+    ensures others { AreOthersKept (λ block. is_among block blocks.now) rows.old.items rows.new.items }
     ensures long { vec_len rows.new ≡ vec_len rows.old }
 {
     let mut chain = Listed::new(alloc);
-    let mut to = Some(first);
-    for i in 0..pages.len() {
-        let Some(block) = to else {
-            return Ok(chain);
-        };
+    for i in 0..blocks.len() {
+        let block = blocks[i];
         let taken = take_rows(alloc, rows, block);
         chain.push((block, taken))?;
-        to = next_of(pages, block);
     }
     Ok(chain)
 }

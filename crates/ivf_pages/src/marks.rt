@@ -1,7 +1,7 @@
 //! The marks of blocks: in which chains each of them stands, of those that were followed so far.
 
 ghost use Rattle.std.specs.Prelude.{◌≡◌, ◌==◌, ℕ, replicate, slice_get, IfOk, if◌then◌else◌};
-ghost use Rattle.ivf_pages.specs.Walking.{is_last, is_met, visited, is_in_one, AreChanged, visited_at, stopped_at};
+ghost use Rattle.ivf_pages.specs.Walking.{is_last, is_met, is_new, visited, is_in_one, AreChanged, visited_at, stopped_at};
 
 use std::alloc::{AllocError, Global};
 use vec_names::Listed;
@@ -32,6 +32,18 @@ pub fn is_met(marks: &Listed<Mark>, list: u32, block: u32) -> bool
 {
     match marks.get(block as usize) {
         Some(mark) => is_last(list, *mark),
+        None => false,
+    }
+}
+
+/// Whether no chain came by the block.
+pub fn is_new(marks: &Listed<Mark>, block: u32) -> bool
+    ensures { result ≡ is_new (slice_get marks.now block) }
+{
+    match marks.get(block as usize) {
+        Some(Mark::Nowhere) => true,
+        Some(Mark::Once { list: _ }) => false,
+        Some(Mark::Wrongly { list: _ }) => false,
         None => false,
     }
 }

@@ -3,7 +3,7 @@
 ghost use Rattle.std.specs.Prelude.{◌≡◌, ◌≤◌, ℕ, Some, length};
 ghost use Rattle.vec_names.specs.Params.{IsInRange};
 ghost use Rattle.ivf_pages.specs.Standing.{params_in, KeepsRulesOf, IsIndexOf};
-ghost use Rattle.ivf_pages.specs.Walking.{AreFirstTuples, HasRows};
+ghost use Rattle.ivf_pages.specs.Walking.{AreFirstTuples, HasRows, chains_of};
 
 use crate::entry_rows::rows_of_pages;
 use crate::list_blocks::first_broken_list;
@@ -32,8 +32,8 @@ use vec_tuples::CentreTuple;
 /// chain has met before, breaks the page that names it. A block that two chains share, or none, is broken itself. `Memory` says nothing
 /// of the pages; then all memory is given back.
 ///
-/// Each tuple is decoded once. Of pages that break no rule each chain is followed twice, to judge it and to take its rows. Where chains
-/// share blocks, each is followed to its end, once: at most as many steps as there are lists, for each block.
+/// Each tuple is decoded once, and each chain is followed once. Where chains share blocks, which no good index has, each is followed to
+/// its end: at most as many steps as there are lists, for each block.
 pub fn ivf_of(alloc: Global, pages: &[Page]) -> Result<IvfGraph, GraphFault>
     requires { length pages.now ≤ MOST_BLOCKS }
     ensures { IsIndexOf pages.now result }
@@ -43,22 +43,25 @@ pub fn ivf_of(alloc: Global, pages: &[Page]) -> Result<IvfGraph, GraphFault>
     };
     let tuples = first_tuples(alloc, pages, &params)?;
     let mut marks = fresh_marks(alloc, pages.len())?;
-    let aimless = first_aimless(pages, &params, tuples.as_slice(), &mut marks);
+    let mut chains = Listed::new(alloc);
+    let listed = tuples.as_slice();
+    let aimless = first_aimless(alloc, pages, &params, listed, &mut marks, &mut chains)?;
     if let Some(block) = first_broken_list(pages, &params, aimless) {
         return Err(GraphFault::Bad { block });
     }
     match rows_of_pages(alloc, pages, &params, &marks) {
-        Ok(rows) => index_of(alloc, pages, &params, tuples, rows),
+        Ok(rows) => index_of(alloc, pages, &params, tuples, chains, rows),
         Err(fault) => Err(fault),
     }
 }
 
-/// The index of pages of which no block breaks a rule, from the list tuples and the rows of the blocks.
+/// The index of pages of which no block breaks a rule, from the list tuples, the chains and the rows of the blocks.
 fn index_of(
     alloc: Global,
     pages: &[Page],
     params: &Params,
     tuples: Listed<CentreTuple>,
+    chains: Listed<Listed<u32>>,
     rows: Listed<Listed<(HeapId, Bits)>>,
 ) -> Result<IvfGraph, GraphFault>
     requires few { length pages.now ≤ MOST_BLOCKS }
@@ -67,11 +70,12 @@ fn index_of(
     requires in_range { IsInRange params.now }
     requires first { AreFirstTuples params.now pages.now tuples }
     requires all { length tuples ≡ params.now.lists }
+    requires chains { chains ≡ chains_of pages.now tuples }
     requires rows { HasRows params.now pages.now (length pages.now) rows }
     ensures { IsIndexOf pages.now result }
 {
     let mut rows = rows.into_vec();
-    let lists = lists_of(alloc, pages, tuples, &mut rows)?;
+    let lists = lists_of(alloc, tuples, chains.as_slice(), &mut rows)?;
     Ok(IvfGraph {
         lists,
         blocks: pages.len() as u32,

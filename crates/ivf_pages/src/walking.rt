@@ -1,35 +1,44 @@
 //! The chains of the lists, followed one after the other.
 
-ghost use Rattle.std.specs.Prelude.{◌≡◌, ◌≤◌, ◌<◌, ℕ, true, false, None, Some, IfNone, MatchOption, length, replicate, slice_get};
+ghost use Rattle.std.specs.Prelude.{◌≡◌, ◌≤◌, ◌<◌, ◌++◌, ◌∷◌, [], ℕ, true, false, None, Some, OnOk, IfOk, IfSome, IfNone, MatchOption, length, map, replicate, slice_get};
+ghost use Rattle.std.specs.Option.{is_some};
 ghost use Rattle.vec_names.specs.Params.{IsInRange};
+ghost use Rattle.ivf_pages.specs.declared.marks.Mark.TheVariants.{Nowhere};
 ghost use Rattle.ivf_pages.specs.Standing.{has_entries, next_of, centre_in, chain_from, has_aim};
-ghost use Rattle.ivf_pages.specs.Walking.{arrived, stopped, marked_by, AreChanged, AreBelow, AreMarked, AreFirstTuples, IsFirstAimless};
+ghost use Rattle.ivf_pages.specs.Walking.{arrived, stopped, marked_by, visited_at, AreChanged, AreBelow, AreMarked, AreFirstTuples, IsFirstAimless, AreChainsApart, IsNew, chains_of};
 
-use crate::marks::{Mark, is_met, stop_at, visit};
+use crate::marks::{Mark, is_met, is_new, stop_at, visit};
 use page_bytes::Page;
 use page_redo::holds_entries;
+use std::alloc::{AllocError, Global};
 use vec_names::{Listed, Params};
 use vec_tuples::CentreTuple;
 
 // ---- all lists
 
 /// Follows the chains of the lists, of which these are the tuples, and marks their blocks. It stops at the first list that has no tuple,
-/// or whose aim is not in its chain.
+/// or whose aim is not in its chain. `chains` is empty before, and has the blocks of each chain in their order after, where no block
+/// stands in two of them.
 pub fn first_aimless(
+    alloc: Global,
     pages: &[Page],
     params: &Params,
     tuples: &[CentreTuple],
     marks: &mut Listed<Mark>,
-) -> Option<u32>
+    chains: &mut Listed<Listed<u32>>,
+) -> Result<Option<u32>, AllocError>
     requires tuples { AreFirstTuples params.now pages.now tuples.now }
     requires fresh { marks.old ≡ replicate (length pages.now) Mark.Nowhere }
-    ensures first { IsFirstAimless params.now pages.now result }
-    ensures marked { IfNone result (AreMarked params.now pages.now params.now.lists marks.new) }
-    ensures all { IfNone result (length tuples.now ≡ params.now.lists) }
+    requires none { chains.old ≡ [] }
+    ensures first { IfOk result (IsFirstAimless params.now pages.now) }
+    ensures marked { IfOk result (λ first. first ≡ None → AreMarked params.now pages.now params.now.lists marks.new) }
+    ensures all { IfOk result (λ first. first ≡ None → length tuples.now ≡ params.now.lists) }
+    ensures chains { IfOk result (λ first. first ≡ None → AreChainsApart (chains_of pages.now tuples.now)
+        → chains.new ≡ chains_of pages.now tuples.now) }
 {
-    match follow_all(pages, params, tuples, marks) {
-        Some(list) => Some(list),
-        None => first_missing(tuples.len(), params.lists),
+    match follow_all(alloc, pages, params, tuples, marks, chains)? {
+        Some(list) => Ok(Some(list)),
+        None => Ok(first_missing(tuples.len(), params.lists)),
     }
 }
 
@@ -47,59 +56,65 @@ fn first_missing(count: usize, lists: u32) -> Option<u32>
 
 /// Follows the chains of the lists that have a tuple, and answers the first whose aim is not in its chain.
 fn follow_all(
+    alloc: Global,
     pages: &[Page],
     params: &Params,
     tuples: &[CentreTuple],
     marks: &mut Listed<Mark>,
-) -> Option<u32>
+    chains: &mut Listed<Listed<u32>>,
+) -> Result<Option<u32>, AllocError>
     requires tuples { AreFirstTuples params.now pages.now tuples.now }
     requires fresh { marks.old ≡ replicate (length pages.now) Mark.Nowhere }
-    ensures { MatchOption result
+    requires none { chains.old ≡ [] }
+    ensures { IfOk result (λ first. MatchOption first
         (AreMarked params.now pages.now (length tuples.now) marks.new
-        × ((list : ℕ) → list < length tuples.now → has_aim pages.now (centre_in params.now pages.now list) ≡ true))
+        × ((list : ℕ) → list < length tuples.now → has_aim pages.now (centre_in params.now pages.now list) ≡ true)
+        × (AreChainsApart (chains_of pages.now tuples.now) → chains.new ≡ chains_of pages.now tuples.now))
         (λ first. (first < length tuples.now) × (has_aim pages.now (centre_in params.now pages.now first) ≡ false)
-        × ((list : ℕ) → list < first → has_aim pages.now (centre_in params.now pages.now list) ≡ true)) }
+        × ((list : ℕ) → list < first → has_aim pages.now (centre_in params.now pages.now list) ≡ true))) }
 {
     let _lists = params.lists;
     for list in 0..tuples.len() {
-        if !follow_one(pages, marks, list as u32, &tuples[list]) {
-            return Some(list as u32);
+        let tuple = &tuples[list];
+        let chain = follow(alloc, pages, marks, list as u32, tuple.first)?;
+        if !is_met(marks, list as u32, tuple.aim) {
+            return Ok(Some(list as u32));
         }
+        chains.push(chain)?;
     }
-    None
+    Ok(None)
 }
 
 // ---- one list
 
-/// Follows the chain of a list, and answers whether its aim stands in it.
-fn follow_one(pages: &[Page], marks: &mut Listed<Mark>, list: u32, tuple: &CentreTuple) -> bool
-    requires long { length marks.old ≡ length pages.now }
-    requires below { AreBelow list marks.old }
-    ensures followed { AreChanged (marked_by pages.now list (chain_from pages.now tuple.now.first)) marks.old marks.new }
-    ensures aim { result ≡ has_aim pages.now (Some tuple.now) }
-{
-    follow(pages, marks, list, tuple.first);
-    is_met(marks, list, tuple.aim)
-}
-
 /// Follows the chain of a list from its first block on: to the last page, or to one that is not there, has no entries or was met before.
-fn follow(pages: &[Page], marks: &mut Listed<Mark>, list: u32, first: u32)
+/// Tells its blocks in their order, but for those where another chain came by before.
+fn follow(
+    alloc: Global,
+    pages: &[Page],
+    marks: &mut Listed<Mark>,
+    list: u32,
+    first: u32,
+) -> Result<Listed<u32>, AllocError>
     requires long { length marks.old ≡ length pages.now }
     requires below { AreBelow list marks.old }
-    ensures { AreChanged (marked_by pages.now list (chain_from pages.now first)) marks.old marks.new }
+    ensures marked { OnOk result (AreChanged (marked_by pages.now list (chain_from pages.now first)) marks.old marks.new) }
+    ensures told { IfOk result (λ chain. IsNew marks.old (chain_from pages.now first) → chain ≡ chain_from pages.now first) }
 {
+    let mut chain = Listed::new(alloc);
     let mut from = None;
     let mut to = Some(first);
     for i in 0..pages.len() {
         let Some(block) = arrived(pages, marks, list, to) else {
             stop(marks, list, from, to);
-            return;
+            return Ok(chain);
         };
-        visit(marks, list, block);
+        come_by(marks, list, block, &mut chain)?;
         to = next_of(pages, block);
         from = Some(block);
     }
     stop(marks, list, from, to);
+    Ok(chain)
 }
 
 /// The block that the chain goes on to, where it can: it has entries, and the chain has not met it before.
@@ -116,6 +131,25 @@ fn arrived(pages: &[Page], marks: &Listed<Mark>, list: u32, to: Option<u32>) -> 
         }
         None => None,
     }
+}
+
+/// The chain comes by the block, and has it as its next one where no chain came by before.
+fn come_by(
+    marks: &mut Listed<Mark>,
+    list: u32,
+    block: u32,
+    chain: &mut Listed<u32>,
+) -> Result<(), AllocError>
+    ensures visited { AreChanged (visited_at list block) marks.old marks.new }
+    ensures told { OnOk result (slice_get marks.old block ≡ Some Nowhere → chain.new ≡ chain.old ++ block ∷ []) }
+{
+    let new = is_new(marks, block);
+    visit(marks, list, block);
+    if !new {
+        return Ok(());
+    }
+    chain.push(block)?;
+    Ok(())
 }
 
 /// The chain ends at the block that it came from last, which stops it short where that names a next one.
