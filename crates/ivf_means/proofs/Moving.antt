@@ -1,5 +1,5 @@
 -- Centres that are changed one after the other, and those that are chosen so.
-use Rattle.std.proofs.Common.{◌≡◌, refl, sym, ap, ◌∙◌, subst, ℕ, zero, suc, ◌+◌, ◌-◌, ◌<◌, ◌≤◌, List, [], ◌∷◌, ◌++◌, append_assoc, length, get_or, set, take, drop, map, arith}
+use Rattle.std.proofs.Common.{◌≡◌, refl, sym, ap, ◌∙◌, subst, ℕ, suc, ◌+◌, ◌-◌, ◌<◌, ◌≤◌, List, [], ◌∷◌, ◌++◌, append_assoc, length, get_or, set, take, drop, map, arith}
 use Rattle.std.specs.Prelude.{Bool}
 use Rattle.std.proofs.lemmas.List.{append-nil, take_all, drop_all, get_or-drop, drop_more, take_more_set, get_or-map, drop-drop, drop-set-lt}
 use Rattle.ivf_means.specs.declared.row.Row.{Row}

@@ -1,7 +1,6 @@
 -- Counts of members, and the majority that they give.
-use Rattle.std.proofs.Common.{◌≡◌, refl, sym, ap, ◌∙◌, ℕ, zero, suc, ◌+◌, ◌*◌, ◌<◌, ◌≤◌, List, [], ◌∷◌, length, get_or, arith, map}
-use Rattle.std.specs.Prelude.{cond, Bool, true, false, nat_lt, ◌==◌, if◌then◌else◌}
-use Rattle.std.specs.List.{range_with_len}
+use Rattle.std.proofs.Common.{◌≡◌, sym, ap, ◌∙◌, ℕ, suc, ◌*◌, ◌<◌, ◌≤◌, List, [], ◌∷◌, length, get_or, arith}
+use Rattle.std.specs.Prelude.{Bool, true, false, nat_lt, ◌==◌, if◌then◌else◌}
 use Rattle.std.proofs.lemmas.List.{ext_get_or, length-map}
 use Rattle.bit_code.specs.Places.{digit_of}
 use Rattle.std.proofs.lemmas.List.Sums.{count_by-le-length}

@@ -9,10 +9,13 @@ use crate::choosing::nearest_of;
 use crate::{BuildFault, Row};
 use bit_code::Bits;
 use index_sizes::MOST_BLOCKS;
+use rayon::prelude::*;
 use std::alloc::Global;
+use std::thread::Threads;
 
-/// The number of each row's nearest centre, the lowest of equal ones.
-pub fn assign(
+/// The number of each row's nearest centre, the lowest of equal ones. The rows are shared among workers.
+pub fn assign<R: Threads + Sync>(
+    rt: &R,
     alloc: Global,
     rows: &[Row],
     centres: &[Bits],
@@ -25,9 +28,16 @@ pub fn assign(
     ensures value { IfOk result (λ v. v.items ≡ map (nearest centres.now) (values_of rows.now)) }
     ensures memory { IfErr result (λ e. e ≡ Memory) }
 {
-    let mut assigned = Vec::with_capacity(alloc, rows.len())?;
-    for row in rows {
-        assigned.push(nearest_of(centres, &row.bits))?;
-    }
+    let assigned = rows
+        .par_iter()
+        .map(
+            |row: &Row| -> u32
+                requires some { 1 ≤ length centres.now }
+                requires few { length centres.now ≤ MOST_BLOCKS }
+                requires long { HaveLength (length row.now.bits) centres.now }
+                ensures { result ≡ nearest centres.entry.now row.now.bits }
+            { nearest_of(centres, &row.bits) },
+        )
+        .collect(rt, alloc)?;
     Ok(assigned)
 }

@@ -7,6 +7,7 @@ mod choosing;
 mod fault;
 mod first;
 mod recentring;
+mod rounds;
 mod row;
 
 pub use assigning::assign;
@@ -14,6 +15,7 @@ pub use choosing::nearest_of;
 pub use fault::BuildFault;
 pub use first::choose_first;
 pub use recentring::recentre;
+pub use rounds::centres;
 pub use row::Row;
 
 #[cfg(test)]

@@ -1,4 +1,4 @@
-use Rattle.std.proofs.Common.{◌≡◌, ◌≤◌, subst, sym, ◌∙◌, map, length, arith}
+use Rattle.std.proofs.Common.{◌≡◌, subst, sym, map, length, arith}
 use Rattle.std.proofs.lemmas.List.{length-map}
 use Rattle.bit_code.specs.Places.{unequal}
 use Rattle.ivf_means.specs.Working.{IsLeastAt}

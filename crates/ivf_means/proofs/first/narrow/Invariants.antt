@@ -1,4 +1,4 @@
-use Rattle.std.proofs.Common.{◌≡◌, ◌<◌, ◌≤◌, ℕ, get_or, length, [], min}
+use Rattle.std.proofs.Common.{◌≡◌, ◌<◌, ◌≤◌, ℕ, get_or, [], min}
 use Rattle.bit_code.specs.Places.{unequal}
 use Rattle.ivf_means.specs.Centres.{values_of}
 use Rattle.ivf_means.proofs.first.narrow.Given as goal

@@ -1,4 +1,4 @@
-use Rattle.std.proofs.Common.{◌≡◌, ◌-◌, ◌%◌, ◌≤◌, ◌∷◌, [], map, get_or, length, vec_len}
+use Rattle.std.proofs.Common.{◌≡◌, ◌-◌, ◌%◌, ◌≤◌, ◌∷◌, [], map, get_or, length}
 use Rattle.ivf_means.specs.Centres.{values_of, with_farthest, gap}
 use Rattle.ivf_means.proofs.first.spread.Given as goal
 

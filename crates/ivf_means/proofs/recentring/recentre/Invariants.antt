@@ -1,4 +1,4 @@
-use Rattle.std.proofs.Common.{◌≡◌, ◌++◌, ◌≤◌, ℕ, List, length, take, drop}
+use Rattle.std.proofs.Common.{◌≡◌, ◌++◌, ℕ, List, length, take, drop}
 use Rattle.std.specs.Prelude.{Bool}
 use Rattle.ivf_means.specs.Centres.{values_of, recentred_from}
 use Rattle.ivf_means.specs.Working.{assigned_to}

@@ -1,4 +1,4 @@
-use Rattle.std.proofs.Common.{◌≡◌, ◌<◌, ◌*◌, ℕ, length, get_or, subst, arith, ◌∙◌, sym}
+use Rattle.std.proofs.Common.{◌≡◌, ◌*◌, get_or, subst, arith, ◌∙◌, sym}
 use Rattle.std.specs.Prelude.{false, nat_lt}
 use Rattle.ivf_means.specs.Centres.{values_of}
 use Rattle.ivf_means.specs.Working.{assigned_to}
