@@ -5,3 +5,5 @@ pub mod Turns
 pub mod Results
 pub mod Lowering
 pub mod Entering
+pub mod Chosen
+pub mod LayersFound

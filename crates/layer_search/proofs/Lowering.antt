@@ -1,8 +1,7 @@
 -- From layer to layer.
-use Rattle.std.proofs.Common.{◌≡◌, ℕ, suc, ◌+◌, ◌-◌, ◌<◌, ◌≤◌, Bool, List, [], ◌∷◌, ◌++◌, map, refl, sym, ap, subst, ◌∙◌, arith, append_assoc, append-nil, min}
+use Rattle.std.proofs.Common.{◌≡◌, ℕ, suc, ◌+◌, ◌-◌, ◌<◌, ◌≤◌, Bool, List, [], ◌∷◌, ◌++◌, map, refl, sym, subst, arith, append_assoc, append-nil}
 use Rattle.std.specs.List.{AllByRecursion}
 use Rattle.vec_names.specs.declared.params.Ops.{Ops}
-use Rattle.vec_history.specs.declared.event.Event.{Event}
 use Rattle.vec_history.specs.declared.event.Act.{Act}
 use Rattle.neighbour_pick.specs.declared.found.Found.{Found}
 use Rattle.graph_search.specs.Reads.{Look, Answer}
@@ -10,15 +9,13 @@ use Rattle.graph_search.specs.Search.{LayerSearch}
 use Rattle.graph_search.specs.Descent.{IsLowered, or_from, start_at}
 use Rattle.search_sets.specs.declared.spot.Spot.{Spot}
 use Rattle.search_sets.specs.Standing.{spot_of}
-use Rattle.vec_steps.specs.Index.{Index, OfNodes, OfLists, IsShaped, IsLegal}
+use Rattle.vec_steps.specs.Index.{Index, OfNodes, OfLists}
 use Rattle.vec_steps.specs.Desks.{Desk}
-use Rattle.vec_steps.specs.Calls.{Acts}
 use Rattle.layer_search.specs.Waiting.{AreApart, AreLong}
 use Rattle.layer_search.specs.Telling.{OverSpots, StandThere, StandsAt}
 use Rattle.layer_search.specs.Looking.{MadeLooks}
 use Rattle.layer_search.specs.Running.{Lowers, SearchesLayer}
 use Rattle.layer_search.proofs.Looks.{looks_none, looks_then}
-use Rattle.layer_search.proofs.Told.{stand_later}
 
 -- ---- a lower layer
 
@@ -34,6 +31,11 @@ stand_lower acts high low h spots (OfLists g) there = absurd there
 pub over_lower : {stands : Index → Type 0} {acts : List Act} (high low : ℕ) → low ≤ high → (spots : List Spot) (base : Index)
     → OverSpots stands acts high spots base → OverSpots stands acts low spots base
 over_lower {acts = acts} high low h spots base o = record { stood = o.stood; there = stand_lower acts high low h spots base o.there }
+
+-- what was given as a slice
+pub over_slice : (stands : Index → Type 0) (acts : List Act) (layer : ℕ) (slice from : List Found) → slice ≡ from → (base : Index)
+    → OverSpots stands acts layer (map spot_of from) base → OverSpots stands acts layer (map spot_of slice) base
+over_slice stands acts layer slice from is base o = subst (λ (l : List Found). OverSpots stands acts layer (map spot_of l) base) (sym is) o
 
 -- what a search found, or where it began
 pub or_over : {stands : Index → Type 0} {acts : List Act} (layer : ℕ) (found from : List Found) (base : Index) → OverSpots stands acts layer (map spot_of found) base

@@ -230,7 +230,7 @@ length_ranked : {X : Type 0} (lt : X → X → Bool) (xs : List X) → length (r
 length_ranked lt [] = refl
 length_ranked lt (x ∷ xs) = omega (arith, length_placed lt x (ranked lt xs), length_ranked lt xs)
 
-length_kept : (keeps : Found → Bool) (xs : List Found) → length (filter keeps xs) ≤ length xs
+pub length_kept : (keeps : Found → Bool) (xs : List Found) → length (filter keeps xs) ≤ length xs
 length_kept keeps [] = omega arith
 length_kept keeps (x ∷ xs) =
     elim (keeps x) as (λ b. length (cond b (x ∷ filter keeps xs) (filter keeps xs)) ≤ length (x ∷ xs)) [

@@ -2,12 +2,18 @@
 #![tactic(auto)]
 
 mod aim;
+mod choosing;
 mod descending;
 mod expanding;
+mod found_lists;
+mod listing;
 mod looking;
+mod plan;
 mod searching;
 
 pub use descending::{Descent, descend};
+pub use found_lists::FoundLists;
+pub use listing::find_lists;
 pub use searching::search_layer;
 
 #[cfg(test)]

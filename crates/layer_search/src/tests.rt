@@ -1,6 +1,8 @@
 ghost use Rattle.std.specs.Prelude.{◌≡◌, ◌≤◌, IfOk, length};
 ghost use Rattle.vec_names.specs.Params.{IsInRange};
 
+mod lists;
+
 use crate::*;
 use arrayvec::ArrayVec;
 use bit_code::{Bits, read_bits};

@@ -1,9 +1,6 @@
-use Rattle.std.proofs.Common.{◌≡◌, ◌-◌, ℕ, List, map, min, refl, sym, ap, subst, ◌∙◌, arith}
+use Rattle.std.proofs.Common.{◌-◌, List, map, min, sym, ap, subst, ◌∙◌, arith}
 use Rattle.neighbour_pick.specs.declared.found.Found.{Found}
-use Rattle.graph_search.specs.Descent.{or_from}
 use Rattle.search_sets.specs.Standing.{spot_of}
-use Rattle.vec_history.specs.declared.event.Act.{Act}
-use Rattle.vec_steps.specs.Index.{Index}
 use Rattle.vec_steps.specs.Desks.{Desk}
 use Rattle.vec_steps.proofs.Following.{goes_nowhere, goes_then}
 use Rattle.layer_search.specs.Waiting.{AreApart, AreLong}
@@ -11,13 +8,8 @@ use Rattle.layer_search.specs.Telling.{OverSpots}
 use Rattle.layer_search.specs.Looking.{EndedBy}
 use Rattle.layer_search.proofs.Looks.{ended_then, fails}
 use Rattle.layer_search.proofs.Told.{stand_later}
-use Rattle.layer_search.proofs.Lowering.{lowered_as, lowered_end, lowered_more, lowered_none, or_apart, or_long, or_over, over_lower}
+use Rattle.layer_search.proofs.Lowering.{lowered_as, lowered_end, lowered_more, lowered_none, or_apart, or_long, or_over, over_lower, over_slice}
 use Rattle.layer_search.proofs.descending.lower.Goals as goal
-
--- what the search was given as a slice is what it began from
-over_slice : (stands : Index → Type 0) (acts : List Act) (layer : ℕ) (slice from : List Found) → slice ≡ from → (base : Index)
-    → OverSpots stands acts layer (map spot_of from) base → OverSpots stands acts layer (map spot_of slice) base
-over_slice stands acts layer slice from is base o = subst (λ (l : List Found). OverSpots stands acts layer (map spot_of l) base) (sym is) o
 
 pub layers-init : goal.layers-init
 layers-init g c = record {
