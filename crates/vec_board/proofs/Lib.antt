@@ -5,3 +5,9 @@ pub mod Recorded
 pub mod NextStanding
 pub mod FromBefore
 pub mod TellingLooks
+pub mod SteppedBy
+pub mod GivenBack
+pub mod ChangesSaid
+pub mod PlacesThere
+pub mod ChangesMade
+pub mod Changed

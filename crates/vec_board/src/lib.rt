@@ -2,9 +2,11 @@
 #![tactic(auto)]
 
 mod board_core;
+mod changes;
 mod changing;
 mod commit;
 mod ending;
+mod events;
 mod history;
 mod limits;
 mod looks;
