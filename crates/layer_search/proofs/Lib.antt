@@ -5,3 +5,6 @@ pub mod Turns
 pub mod Results
 pub mod Lowering
 pub mod Entering
+pub mod Marks
+pub mod Exactness
+pub mod Taking

@@ -1,8 +1,7 @@
 -- From layer to layer.
-use Rattle.std.proofs.Common.{◌≡◌, ℕ, suc, ◌+◌, ◌-◌, ◌<◌, ◌≤◌, Bool, List, [], ◌∷◌, ◌++◌, map, refl, sym, ap, subst, ◌∙◌, arith, append_assoc, append-nil, min}
+use Rattle.std.proofs.Common.{◌≡◌, ℕ, suc, ◌+◌, ◌-◌, ◌<◌, ◌≤◌, Bool, List, [], ◌∷◌, ◌++◌, map, refl, sym, subst, arith, append_assoc, append-nil}
 use Rattle.std.specs.List.{AllByRecursion}
 use Rattle.vec_names.specs.declared.params.Ops.{Ops}
-use Rattle.vec_history.specs.declared.event.Event.{Event}
 use Rattle.vec_history.specs.declared.event.Act.{Act}
 use Rattle.neighbour_pick.specs.declared.found.Found.{Found}
 use Rattle.graph_search.specs.Reads.{Look, Answer}
@@ -10,15 +9,13 @@ use Rattle.graph_search.specs.Search.{LayerSearch}
 use Rattle.graph_search.specs.Descent.{IsLowered, or_from, start_at}
 use Rattle.search_sets.specs.declared.spot.Spot.{Spot}
 use Rattle.search_sets.specs.Standing.{spot_of}
-use Rattle.vec_steps.specs.Index.{Index, OfNodes, OfLists, IsShaped, IsLegal}
+use Rattle.vec_steps.specs.Index.{Index, OfNodes, OfLists}
 use Rattle.vec_steps.specs.Desks.{Desk}
-use Rattle.vec_steps.specs.Calls.{Acts}
 use Rattle.layer_search.specs.Waiting.{AreApart, AreLong}
 use Rattle.layer_search.specs.Telling.{OverSpots, StandThere, StandsAt}
 use Rattle.layer_search.specs.Looking.{MadeLooks}
 use Rattle.layer_search.specs.Running.{Lowers, SearchesLayer}
 use Rattle.layer_search.proofs.Looks.{looks_none, looks_then}
-use Rattle.layer_search.proofs.Told.{stand_later}
 
 -- ---- a lower layer
 

@@ -2,3 +2,4 @@ pub mod Waiting
 pub mod Looking
 pub mod Telling
 pub mod Running
+pub mod Resuming

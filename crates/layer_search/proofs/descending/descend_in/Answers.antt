@@ -1,4 +1,4 @@
-use Rattle.std.proofs.Common.{◌≡◌, ◌∙◌, ◌++◌, ℕ, [], List, Option, Some, None, map, sym, ap, subst}
+use Rattle.std.proofs.Common.{◌≡◌, ◌++◌, ℕ, [], List, Option, Some, map, sym, ap, subst}
 use Rattle.neighbour_pick.specs.declared.found.Found.{Found}
 use Rattle.search_sets.specs.Standing.{spot_of}
 use Rattle.vec_steps.specs.Index.{Index}

@@ -1,4 +1,4 @@
-use Rattle.std.proofs.Common.{◌≡◌, [], List, sym, subst, ◌∙◌}
+use Rattle.std.proofs.Common.{[], sym, subst}
 use Rattle.vec_steps.specs.Telling.{node_told}
 use Rattle.layer_search.specs.Telling.{OverSpots}
 use Rattle.layer_search.specs.Looking.{EndedBy}

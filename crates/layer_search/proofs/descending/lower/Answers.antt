@@ -1,6 +1,5 @@
-use Rattle.std.proofs.Common.{◌≡◌, ◌-◌, ℕ, List, map, min, refl, sym, ap, subst, ◌∙◌, arith}
+use Rattle.std.proofs.Common.{◌≡◌, ◌-◌, ℕ, List, map, min, sym, ap, subst, ◌∙◌, arith}
 use Rattle.neighbour_pick.specs.declared.found.Found.{Found}
-use Rattle.graph_search.specs.Descent.{or_from}
 use Rattle.search_sets.specs.Standing.{spot_of}
 use Rattle.vec_history.specs.declared.event.Act.{Act}
 use Rattle.vec_steps.specs.Index.{Index}

@@ -1,4 +1,4 @@
-use Rattle.std.proofs.Common.{◌≡◌, ◌≤◌, ℕ, length, map, min}
+use Rattle.std.proofs.Common.{◌≡◌, ◌≤◌, length, map, min}
 use Rattle.search_sets.specs.Standing.{spot_of}
 use Rattle.vec_steps.specs.Index.{Index}
 use Rattle.vec_steps.specs.Calls.{Goes}

@@ -1,4 +1,4 @@
-use Rattle.std.proofs.Common.{◌≡◌, ◌++◌, ◌∷◌, [], List, Bool, true, false, ap, sym, ◌∙◌, true≢false}
+use Rattle.std.proofs.Common.{◌++◌, ◌∷◌, [], List, ap, ◌∙◌, true≢false}
 use Rattle.neighbour_pick.specs.declared.found.Found.{Found}
 use Rattle.layer_search.proofs.looking.put_told.Goals as goal
 
