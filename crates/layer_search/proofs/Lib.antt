@@ -7,3 +7,6 @@ pub mod Lowering
 pub mod Entering
 pub mod Chosen
 pub mod LayersFound
+pub mod Marks
+pub mod Exactness
+pub mod Taking

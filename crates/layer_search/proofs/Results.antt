@@ -23,7 +23,7 @@ use Rattle.layer_search.proofs.Turns.{found_of, held_all}
 
 -- ---- the bases at the beginning
 
-begun_there : (acts : List Act) (layer : ℕ) (from : List Found) (h : Held) (base : Index) → HoldTheSame h (begun_from from)
+pub begun_there : (acts : List Act) (layer : ℕ) (from : List Found) (h : Held) (base : Index) → HoldTheSame h (begun_from from)
     → StandThere acts layer (map spot_of from) base → StandThere acts layer (spots_held h) base
 begun_there acts layer from h (OfNodes g) begun there =
     let P : Found → Type 0 = λ e. StandsAt g acts layer (spot_of e) in

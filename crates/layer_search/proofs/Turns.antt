@@ -164,7 +164,7 @@ held_all P h waiting found =
     subst (AllByRecursion P) (sym (held_spots h))
     (all_both P (map spot_of h.unexpanded) (map spot_of (found_held h)) (spots_all P h.unexpanded waiting) (spots_all P (found_held h) found))
 
-waiting_of : (P : Spot → Type 0) (h : Held) → AllByRecursion P (spots_held h) → AllByRecursion (λ e. P (spot_of e)) h.unexpanded
+pub waiting_of : (P : Spot → Type 0) (h : Held) → AllByRecursion P (spots_held h) → AllByRecursion (λ e. P (spot_of e)) h.unexpanded
 waiting_of P h all = all_spots P h.unexpanded (all_first P (map spot_of h.unexpanded) (map (λ p. spot_of p.0) h.found) all)
 
 pub found_of : (P : Spot → Type 0) (h : Held) → AllByRecursion P (spots_held h) → AllByRecursion (λ e. P (spot_of e)) (found_held h)

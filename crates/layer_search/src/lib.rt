@@ -2,18 +2,23 @@
 #![tactic(auto)]
 
 mod aim;
+mod batching;
 mod choosing;
 mod descending;
 mod expanding;
 mod found_lists;
+mod law;
 mod listing;
 mod looking;
 mod plan;
+mod resuming;
 mod searching;
 
 pub use descending::{Descent, descend};
 pub use found_lists::FoundLists;
+pub use law::law_elements_stay;
 pub use listing::find_lists;
+pub use resuming::Search;
 pub use searching::search_layer;
 
 #[cfg(test)]

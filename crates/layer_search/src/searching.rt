@@ -107,8 +107,8 @@ pub(crate) fn search_in<S: Steps>(
     Ok(found)
 }
 
-// Makes turns until the search is over.
-fn go_on<S: Steps>(
+/// Makes turns until the search is over.
+pub(crate) fn go_on<S: Steps>(
     steps: &mut S,
     query: &Bits,
     aim: Aim,

@@ -1,10 +1,13 @@
 -- The wanted ones are taken, and the others come after them.
-use Rattle.std.proofs.Common.{◌≡◌, refl, sym, ap, ◌∙◌, subst, ℕ, ◌+◌, ◌<◌, ◌≤◌, List, [], ◌∷◌, ◌++◌, length, take, drop, get_or, arith, zero, suc, append-nil}
+use Rattle.std.proofs.Common.{◌≡◌, refl, sym, ap, ◌∙◌, subst, ℕ, ◌+◌, ◌<◌, ◌≤◌, false, List, [], ◌∷◌, ◌++◌, length, take, drop, get_or, arith, zero, suc, append-nil}
+use Rattle.std.specs.List.{AllByRecursion}
 use Rattle.list_values.specs.Ranking.{placed}
 use Rattle.search_sets.specs.declared.key.Key.{Key}
 use Rattle.search_sets.specs.Keys.{is_before, in_order}
-use Rattle.search_sets.specs.Bests.{IsSplit}
-use Rattle.search_sets.proofs.Splitting.{in_order_more}
+use Rattle.search_sets.specs.Bests.{IsSplit, NoneBefore, Rise}
+use Rattle.search_sets.proofs.Heaps.{all_in_order}
+use Rattle.search_sets.proofs.OneOrder.{placed_first}
+use Rattle.search_sets.proofs.Splitting.{all_append, in_order_more}
 use Rattle.search_sets.proofs.Fronts.{take_more}
 
 pub split_none : (most : ℕ) (best rest : List Key) → 1 ≤ most → best ≡ [] → rest ≡ [] → IsSplit most best rest
@@ -49,3 +52,11 @@ wanted most best (r ∷ rest) s = sym (take_exact best (in_order (r ∷ rest)) m
 pub unwanted : (most : ℕ) (best rest : List Key) → IsSplit most best rest → in_order rest ≡ drop most (best ++ in_order rest)
 unwanted most best [] s = sym (ap (drop most) (append-nil best) ∙ drop_short best most s.within)
 unwanted most best (r ∷ rest) s = sym (drop_exact best (in_order (r ∷ rest)) most s.full)
+
+-- both lists in one have the wanted ones first, in order
+pub split_in_order : (best rest : List Key) → Rise best → AllByRecursion (λ x. NoneBefore x rest) best → in_order (best ++ rest) ≡ best ++ in_order rest
+split_in_order [] rest rise below = refl
+split_in_order (x ∷ best) rest rise below =
+    ap (placed is_before x) (split_in_order best rest rise.1 below.1)
+    ∙ placed_first is_before x (best ++ in_order rest)
+    (all_append (λ y. is_before y x ≡ false) best (in_order rest) rise.0 (all_in_order (λ y. is_before y x ≡ false) rest below.0))

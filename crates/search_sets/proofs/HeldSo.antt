@@ -1,5 +1,5 @@
 -- What a frontier holds after each of its changes.
-use Rattle.std.proofs.Common.{◌≡◌, ℕ, zero, suc, ◌+◌, ◌-◌, ◌<◌, ◌≤◌, ◌^◌, ◌||◌, Bool, true, false, cond, List, [], ◌∷◌, ◌++◌, map, filter, take, length, get_or, slice_get, Option, Some, refl, sym, ap, ap₂, subst, ◌∙◌, arith, length-append, append_assoc, nat_lt}
+use Rattle.std.proofs.Common.{◌≡◌, ℕ, zero, suc, ◌+◌, ◌-◌, ◌<◌, ◌≤◌, ◌^◌, ◌||◌, Bool, true, false, cond, List, [], ◌∷◌, ◌++◌, map, filter, take, drop, length, get_or, slice_get, Option, Some, refl, sym, ap, ap₂, subst, ◌∙◌, arith, length-append, append_assoc, nat_lt}
 use Rattle.std.specs.Prelude.{if◌then◌else◌, MatchOption}
 use Rattle.std.specs.List.{AllByRecursion}
 use Rattle.std.specs.Cmp.{IsStrictWeakOrder}
@@ -25,7 +25,7 @@ use Rattle.search_sets.specs.declared.frontier.Frontier.{Frontier}
 use Rattle.search_sets.specs.Keys.{is_before, is_nearer}
 use Rattle.search_sets.specs.Bests.{Rise}
 use Rattle.search_sets.specs.Naming.{is_past}
-use Rattle.search_sets.specs.Standing.{IsKeyOf, IsWhole, TakesLeast, bare, begun_from, element_in, held, holds_nothing, nearer_found, spot_of, wanted, with_elements, with_names}
+use Rattle.search_sets.specs.Standing.{IsKeyOf, IsWhole, TakesLeast, bare, begun_from, element_in, held, holds_nothing, known_earlier, nearer_found, spot_of, wanted, with_elements, with_names, without_batch}
 use Rattle.search_sets.proofs.Splitting.{all_placed, rise_placed}
 use Rattle.search_sets.proofs.Fronts.{take_more}
 use Rattle.search_sets.proofs.Mentioned.{inserted}
@@ -33,11 +33,14 @@ use Rattle.search_sets.proofs.Known.{element_new, element_stays, in_order_alread
 
 -- ---- one element more
 
+earlier_flag : (n m : ℕ) → n < m → nat_lt n m ≡ true
+earlier_flag n m h = grind (arith, nat_tests)
+
 less_flag : (n m : ℕ) → m ≤ n → nat_lt n m ≡ false
 less_flag n m h = grind (arith, nat_tests)
 
 -- the element of a key, with whether an earlier batch knew it
-abbrev flagged : ℕ → List Found → Key → Found × Bool
+abbrev pub flagged : ℕ → List Found → Key → Found × Bool
 flagged earlier known k = (element_in known k, nat_lt k.index earlier)
 
 module _ (f g : Frontier) (e : Found) (w : IsWhole f) (known_is : g.known ≡ f.known ++ e ∷ []) (named_is : g.named ≡ f.named)
@@ -255,6 +258,69 @@ module _ (f g : Frontier) (key : Key) (rest : List Key) (w : IsWhole f) (ahead_w
     };
   }
 
+-- ---- another batch
+
+earlier_flags : (known : List Found) (n : ℕ) (ks : List Key) → AllByRecursion (IsKeyOf known) ks
+    → map (flagged (length known) known) ks ≡ map (λ (p : Found × Bool). (p.0, true)) (map (flagged n known) ks)
+earlier_flags known n [] all = refl
+earlier_flags known n (k ∷ ks) all =
+    ap₂ (λ (b : Bool) (ps : List (Found × Bool)). (element_in known k, b) ∷ ps) (earlier_flag k.index (length known) all.0.within)
+    (earlier_flags known n ks all.1)
+
+-- where all that is known becomes what an earlier batch knew
+module _ (f g : Frontier) (w : IsWhole f) (ahead_is : g.ahead ≡ f.ahead) (known_is : g.known ≡ f.known) (named_is : g.named ≡ f.named)
+    (found_is : g.found ≡ f.found) (earlier_is : g.earlier ≡ length f.known) where
+  pub begun_held : HoldTheSame (held g) (known_earlier (held f))
+  begun_held = record {
+    names = λ at. ap (λ (s : set.FinSet tid_cmp). set.contains s at) named_is;
+    unexpanded_are = ap₂ (λ (kn : List Found) (ks : List Key). map (element_in kn) ks) known_is ahead_is;
+    found_are = ap₂ (λ (n : ℕ) (kn : List Found). map (flagged n kn) g.found.1) earlier_is known_is
+        ∙ ap (λ (n : ℕ × List Key). map (flagged (length f.known) f.known) n.1) found_is
+        ∙ earlier_flags f.known f.earlier f.found.1 w.found_keys;
+    count_is = ap length known_is;
+  }
+
+drop_map : {X Y : Type 0} (h : X → Y) (n : ℕ) (xs : List X) → map h (drop n xs) ≡ drop n (map h xs)
+drop_map h zero xs = refl
+drop_map h (suc n) [] = refl
+drop_map h (suc n) (x ∷ xs) = drop_map h n xs
+
+all_drop : (P : Key → Type 0) (n : ℕ) (ks : List Key) → AllByRecursion P ks → AllByRecursion P (drop n ks)
+all_drop P zero ks all = all
+all_drop P (suc n) [] all = tt
+all_drop P (suc n) (k ∷ ks) all = all_drop P n ks all.1
+
+rise_drop : (n : ℕ) (ks : List Key) → Rise ks → Rise (drop n ks)
+rise_drop zero ks rise = rise
+rise_drop (suc n) [] rise = tt
+rise_drop (suc n) (k ∷ ks) rise = rise_drop n ks rise.1
+
+-- where those that are wanted are taken
+module _ (f g : Frontier) (w : IsWhole f) (ahead_is : g.ahead ≡ f.ahead) (known_is : g.known ≡ f.known) (named_is : g.named ≡ f.named)
+    (found_is : g.found ≡ (f.found.0, drop f.found.0 f.found.1)) (earlier_is : g.earlier ≡ f.earlier) where
+  pub left_whole : IsWhole g
+  left_whole = record {
+    ahead_keys = subst (λ (kn : List Found). AllByRecursion (IsKeyOf kn) g.ahead) (sym known_is)
+        (subst (λ (ks : List Key). AllByRecursion (IsKeyOf f.known) ks) (sym ahead_is) w.ahead_keys);
+    ahead_rises = subst Rise (sym ahead_is) w.ahead_rises;
+    found_keys = subst (λ (kn : List Found). AllByRecursion (IsKeyOf kn) g.found.1) (sym known_is)
+        (subst (λ (n : ℕ × List Key). AllByRecursion (IsKeyOf f.known) n.1) (sym found_is)
+        (all_drop (IsKeyOf f.known) f.found.0 f.found.1 w.found_keys));
+    found_rises = subst (λ (n : ℕ × List Key). Rise n.1) (sym found_is) (rise_drop f.found.0 f.found.1 w.found_rises);
+    earlier_few = omega (arith, ap length known_is, earlier_is, w.earlier_few);
+    few = omega (arith, ap length known_is, w.few);
+  }
+
+  pub left_held : HoldTheSame (held g) (without_batch (wanted f) (held f))
+  left_held = record {
+    names = λ at. ap (λ (s : set.FinSet tid_cmp). set.contains s at) named_is;
+    unexpanded_are = ap₂ (λ (kn : List Found) (ks : List Key). map (element_in kn) ks) known_is ahead_is;
+    found_are = ap₂ (λ (n : ℕ) (kn : List Found). map (flagged n kn) g.found.1) earlier_is known_is
+        ∙ ap (λ (n : ℕ × List Key). map (flagged f.earlier f.known) n.1) found_is
+        ∙ drop_map (flagged f.earlier f.known) f.found.0 f.found.1;
+    count_is = ap length known_is;
+  }
+
 -- ---- copies of those found
 
 all_take : (P : Key → Type 0) (n : ℕ) (ks : List Key) → AllByRecursion P ks → AllByRecursion P (take n ks)
@@ -294,6 +360,14 @@ module _ (f : Frontier) (w : IsWhole f) (items : List Key) (items_are : items �
   pub copied_all : (i : ℕ) (found : List Found) → length items ≤ i → found ≡ map (element_in f.known) (take i items)
       → found ≡ map (λ (p : Found × Bool). p.0) (batch_of (wanted f) (held f))
   copied_all i found all is = is ∙ ap (map (element_in f.known)) (take_short items i all ∙ items_are) ∙ sym (batch_so f)
+
+-- with whether an earlier batch knew them
+module _ (f : Frontier) (items : List Key) (items_are : items ≡ take f.found.0 f.found.1) where
+  pub flagged_all : (i : ℕ) (batch : List (Found × Bool)) → length items ≤ i → batch ≡ map (flagged f.earlier f.known) (take i items)
+      → batch ≡ batch_of (wanted f) (held f)
+  flagged_all i batch all is =
+      is ∙ ap (map (flagged f.earlier f.known)) (take_short items i all ∙ items_are)
+      ∙ sym (take_map (flagged f.earlier f.known) f.found.0 f.found.1)
 
 pub first_taken : (r : Option Key) (key : Key) (old new : List Key) → r ≡ Some key → MatchOption r ((old ≡ []) × (new ≡ [])) (λ k. old ≡ k ∷ new)
     → old ≡ key ∷ new

@@ -1,5 +1,5 @@
 -- What a frontier holds, in the words of the search.
-use Rattle.std.specs.Prelude.{◌≡◌, ◌||◌, ℕ, ◌+◌, ◌<◌, ◌≤◌, ◌^◌, ⊤, nat_lt, Bool, true, false, List, [], ◌∷◌, ◌++◌, map, filter, length, get_or}
+use Rattle.std.specs.Prelude.{◌≡◌, ◌||◌, ℕ, ◌+◌, ◌<◌, ◌≤◌, ◌^◌, ⊤, nat_lt, Bool, true, false, List, [], ◌∷◌, ◌++◌, map, filter, drop, length, get_or}
 use Rattle.std.specs.List.{AllByRecursion}
 use Rattle.std.specs.FinSet as set
 use Rattle.vec_names.specs.declared.tid.Tid.{Tid}
@@ -110,6 +110,19 @@ pub record TakesLeast (old new : Held) (spot : Spot) : Type 0 where
   pub least : old.unexpanded ≡ element ∷ rest
   pub is_there : spot ≡ spot_of element
   pub left : HoldTheSame new (record { is_named = old.is_named; unexpanded = rest; found = old.found; count = old.count })
+
+-- all that is known, an earlier batch knew
+abbrev pub known_earlier : Held → Held
+known_earlier h = record {
+  is_named = h.is_named;
+  unexpanded = h.unexpanded;
+  found = map (λ p. (p.0, true)) h.found;
+  count = h.count;
+}
+
+-- so many of those that were found were taken, the first in order
+abbrev pub without_batch : ℕ → Held → Held
+without_batch n h = record { is_named = h.is_named; unexpanded = h.unexpanded; found = drop n h.found; count = h.count }
 
 -- ---- the elements that wait
 

@@ -4,7 +4,7 @@ ghost use Rattle.std.specs.Prelude.{◌≡◌, ◌≤◌, ◌∷◌, [], OnOk, I
 ghost use Rattle.graph_search.specs.Search.{filled};
 ghost use Rattle.graph_search.specs.Scan.{is_over};
 ghost use Rattle.graph_search.specs.ByHolding.{HoldTheSame, batch_of, unnamed};
-ghost use Rattle.search_sets.specs.Standing.{IsWhole, TakesLeast, begun_from, found_at, held, holds_nothing, wanted, with_elements, with_names};
+ghost use Rattle.search_sets.specs.Standing.{IsWhole, TakesLeast, begun_from, found_at, held, holds_nothing, known_earlier, wanted, with_elements, with_names, without_batch};
 
 use crate::candidates::Candidates;
 use crate::copying::{copy_of, found_of, has_rows};
@@ -65,6 +65,28 @@ impl Frontier {
         self.ahead.clear();
         self.found.clear(ef);
         self.earlier = 0;
+    }
+
+    /// So many are to be wanted from now on; what is held stays.
+    pub fn want(&mut self, ef: usize) -> Result<(), AllocError>
+        requires some { 1 ≤ ef }
+        requires whole { IsWhole self.old }
+        ensures whole { OnOk result (IsWhole self.new) }
+        ensures wanted { OnOk result (wanted self.new ≡ ef) }
+        ensures same { OnOk result (HoldTheSame (held self.new) (held self.old)) }
+    {
+        self.found.want(ef)?;
+        Ok(())
+    }
+
+    /// Begins another batch: all that are known now, an earlier batch knew.
+    pub fn begin_batch(&mut self)
+        requires { IsWhole self.old }
+        ensures whole { IsWhole self.new }
+        ensures wanted { wanted self.new ≡ wanted self.old }
+        ensures earlier { HoldTheSame (held self.new) (known_earlier (held self.old)) }
+    {
+        self.earlier = self.known.len();
     }
 
     /// Begins a search from these, where nothing is held.
@@ -174,5 +196,33 @@ impl Frontier {
             found.push(copy_of(&self.known.as_slice()[key.index as usize])?)?;
         }
         Ok(found)
+    }
+
+    /// Takes the elements that were found and are wanted, in order, each a copy, with whether an earlier batch knew it. The others
+    /// that were found stay.
+    pub fn take_batch(&mut self, alloc: Global) -> Result<Listed<(Found, bool)>, AllocError>
+        requires { IsWhole self.old }
+        ensures batch { IfOk result (λ batch. batch ≡ batch_of (wanted self.old) (held self.old)) }
+        ensures whole { OnOk result (IsWhole self.new) }
+        ensures wanted { OnOk result (wanted self.new ≡ wanted self.old) }
+        ensures left { OnOk result (HoldTheSame (held self.new) (without_batch (wanted self.old) (held self.old))) }
+    {
+        let batch = self.batch(alloc)?;
+        self.found.drop_wanted()?;
+        Ok(batch)
+    }
+
+    // Copies of those that are wanted, with whether an earlier batch knew them.
+    fn batch(&self, alloc: Global) -> Result<Listed<(Found, bool)>, AllocError>
+        requires { IsWhole self.now }
+        ensures { IfOk result (λ batch. batch ≡ batch_of (wanted self.now) (held self.now)) }
+    {
+        let mut batch = Listed::new(alloc);
+        for key in self.found.wanted() {
+            let number = key.index as usize;
+            let element = copy_of(&self.known.as_slice()[number])?;
+            batch.push((element, number < self.earlier))?;
+        }
+        Ok(batch)
     }
 }

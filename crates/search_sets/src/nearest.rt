@@ -92,6 +92,23 @@ impl Nearest {
         wanted_of(&self.best, &self.rest, self.most)
     }
 
+    /// So many are to be wanted from now on; all that were found stay. The one error is that there is no memory, and then nothing is
+    /// said of those that stay.
+    pub fn want(&mut self, most: usize) -> Result<(), AllocError>
+        requires { 1 ≤ most }
+        ensures { OnOk result (self.new ≡ (most, self.old.1)) }
+    {
+        if most == self.most {
+            return Ok(());
+        }
+        let all = all_of(&self.best, &self.rest, self.most)?;
+        self.best.clear();
+        self.rest.clear();
+        self.most = most;
+        put_all(&mut self.best, &mut self.rest, most, &all)?;
+        Ok(())
+    }
+
     /// Lets go of those that are wanted; the others stay. The one error is that there is no memory, and then nothing is said of
     /// those that stay.
     pub fn drop_wanted(&mut self) -> Result<(), AllocError>
@@ -109,6 +126,18 @@ fn wanted_of<'a>(best: &'a [Key], rest: &[Key], most: usize) -> &'a [Key]
     let _ = rest;
     let _ = most;
     best
+}
+
+// Both in one list.
+fn all_of(best: &Vec<Key>, rest: &Vec<Key>, most: usize) -> Result<Vec<Key>, AllocError>
+    requires { IsSplit most best.now.items rest.now.items }
+    ensures { IfOk result (λ all. in_order all.items ≡ best.now.items ++ in_order rest.now.items) }
+{
+    let _ = most;
+    let mut all = Vec::new(*rest.allocator());
+    all.extend_from_slice(best)?;
+    all.extend_from_slice(rest)?;
+    Ok(all)
 }
 
 fn drop_best(best: &mut Vec<Key>, rest: &mut Vec<Key>, most: usize) -> Result<(), AllocError>

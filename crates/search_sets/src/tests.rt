@@ -174,3 +174,55 @@ fn a_frontier_of_three(rt: HostRuntime) -> Result<(), Fail> {
     assert!(rt; frontier.is_over(None) && frontier.take_least()?.is_none());
     Ok(())
 }
+
+// Of three found one is wanted, then two: the number may change on the way.
+#[test]
+fn another_number_is_wanted(rt: HostRuntime) -> Result<(), Fail> {
+    let mut nearest = Nearest::new(rt.alloc(), 1);
+    assert!(rt;
+        nearest.put(key(3, 1, 0))? && nearest.put(key(1, 3, 1))? && !nearest.put(key(2, 2, 2))?
+    );
+    nearest.want(2)?;
+    assert!(rt; has_numbers(nearest.wanted(), &[1, 2]));
+    nearest.want(1)?;
+    assert!(rt; has_numbers(nearest.wanted(), &[1]) && is_number(nearest.last(), 1));
+    Ok(())
+}
+
+fn are_marked(batch: &[(Found, bool)], wanted: &[(Tid, bool)]) -> bool {
+    for (element, (at, earlier)) in batch.iter().zip(wanted) {
+        if element.0.at != *at || element.1 != *earlier {
+            return false;
+        }
+    }
+    batch.len() == wanted.len()
+}
+
+// Two elements are found; one is taken. A third comes in the next batch, which takes it before the one that was left: that one alone an
+// earlier batch knew.
+#[test]
+fn batches_are_taken(rt: HostRuntime) -> Result<(), Fail> {
+    let from = [
+        element(rt.alloc(), 1, 1, true)?,
+        element(rt.alloc(), 2, 3, true)?,
+    ];
+    let third = element(rt.alloc(), 3, 2, true)?;
+    let mut frontier = Frontier::new(rt.alloc(), 1)?;
+    frontier.begin(&from)?;
+    let first = frontier.take_batch(rt.alloc())?;
+    assert!(rt; are_marked(first.as_slice(), &[(tid(1), false)]));
+    frontier.begin_batch();
+    frontier.want(2)?;
+    let spot = Spot {
+        at: third.at,
+        list_at: third.list_at,
+        level: third.level,
+        version: third.version,
+    };
+    frontier.add(spot, third.dist, &third.ids, &third.bits)?;
+    let second = frontier.take_batch(rt.alloc())?;
+    assert!(rt; are_marked(second.as_slice(), &[(tid(3), false), (tid(2), true)]));
+    let none = frontier.take_batch(rt.alloc())?;
+    assert!(rt; none.is_empty());
+    Ok(())
+}

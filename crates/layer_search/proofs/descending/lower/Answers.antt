@@ -1,4 +1,4 @@
-use Rattle.std.proofs.Common.{◌-◌, List, map, min, sym, ap, subst, ◌∙◌, arith}
+use Rattle.std.proofs.Common.{◌≡◌, ◌-◌, ℕ, List, map, min, sym, ap, subst, ◌∙◌, arith}
 use Rattle.neighbour_pick.specs.declared.found.Found.{Found}
 use Rattle.search_sets.specs.Standing.{spot_of}
 use Rattle.vec_steps.specs.Desks.{Desk}
