@@ -5,3 +5,8 @@ pub mod Recorded
 pub mod NextStanding
 pub mod FromBefore
 pub mod TellingLooks
+pub mod RoomSet
+pub mod SteppedBy
+pub mod SameIndex
+pub mod TurnLaws
+pub mod SettledLaws

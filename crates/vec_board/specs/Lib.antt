@@ -5,3 +5,5 @@ pub mod Summaries
 pub mod Standing
 pub mod Acting
 pub mod Looking
+pub mod Serving
+pub mod Settling

@@ -54,7 +54,7 @@ fn number_after(event: &Event, number: u64) -> u64
 
 impl Core {
     /// Makes room for one act of the desk where it has none of its own, in the history and in the log.
-    fn make_room(&mut self, desk: u32, event: &Event) -> Result<(), StepFault>
+    pub(crate) fn make_room(&mut self, desk: u32, event: &Event) -> Result<(), StepFault>
         ensures ready { OnOk result (IsReady self.new.history desk event.now) }
         ensures log { OnOk result (IsLogReady self.new desk event.now) }
         ensures kept { IsAsBefore self.old self.new }
@@ -87,7 +87,7 @@ impl Core {
     }
 
     /// The act is made: its pages are changed already.
-    fn record(&mut self, desk: u32, event: Event, left: u8)
+    pub(crate) fn record(&mut self, desk: u32, event: Event, left: u8)
         requires ready { IsReady self.old.history desk event }
         requires log { IsLogReady self.old desk event }
         requires ends { one_if_ends event ≡ 1 → IsToldEnd self.old.history.tables desk event }

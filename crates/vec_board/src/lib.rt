@@ -8,7 +8,11 @@ mod ending;
 mod history;
 mod limits;
 mod looks;
+mod passing;
+mod reserving;
+mod settling;
 mod summary;
+mod turns;
 mod writable;
 
 pub use board_core::Core;
