@@ -1,5 +1,5 @@
 -- What is so of a core is so of one that made nothing since.
-use Rattle.std.proofs.Common.{◌≡◌, ◌≤◌, ◌+◌, ℕ, List, [], ◌∷◌, ◌++◌, Result, Ok, Err, sym, ap, subst, ◌∙◌, inl, inr}
+use Rattle.std.proofs.Common.{◌≡◌, ◌≤◌, ◌+◌, ℕ, List, [], ◌∷◌, ◌++◌, Result, Ok, Err, OnOk, IfErr, ◌<◌, ◌^◌, sym, ap, subst, ◌∙◌, inl, inr}
 use Rattle.vec_names.specs.declared.params.Params.{Params}
 use Rattle.vec_history.specs.declared.event.Event.{Event}
 use Rattle.vec_history.specs.declared.event.Act.{Act}
@@ -32,7 +32,8 @@ use Rattle.vec_board.specs.declared.summary.Summary.{Summary}
 use Rattle.vec_board.specs.Ready.{HasOwnRoom}
 use Rattle.vec_board.specs.Summaries.{Summarizes, summary_after, IsLeft}
 use Rattle.vec_board.specs.Standing.{StandsOn, acts_of}
-use Rattle.vec_board.specs.Acting.{IsMade, IsAsBefore, IsCause, IsChangeCause, IsChangeFault, IsCommitFault, AreMade, ComesTo, MayCommit, MayChange, number_after, log_after, room_of}
+use Rattle.vec_board.proofs.NextStanding.{next_stands}
+use Rattle.vec_board.specs.Acting.{IsMade, IsAsBefore, IsCause, IsChangeCause, IsChangeFault, IsCommitFault, IsSameSet, AreMade, PagesComeTo, ComesTo, MayCommit, MayChange, number_after, log_after, room_of}
 
 -- what a lasting event is that the rules allow
 pub may_change : (core : Core) (set : PageMap) (all : List Content) (base : Index) (desk : ℕ) (e : Event) (left grown : ℕ)
@@ -149,12 +150,24 @@ module _ (old mid : Core) (same : IsAsBefore old mid) where
   fault_since desk e grown (fault.LogFull used size) is = tt
   fault_since desk e grown (fault.Disk count) is = is
 
-  pub comes_since : (new : Core) (before behind : PageMap) (all : List Content) (base : Index) (desk : ℕ) (e : Event) (grown : ℕ)
-      (r : Result (Unit {0}) StepFault) → ComesTo mid new before behind all base desk e grown r → ComesTo old new before behind all base desk e grown r
-  comes_since new before behind all base desk e grown (Ok done) (after, stands, made) = (
+  -- what becomes of the pages is said by the core before
+  pub pages_come : (before behind : PageMap) (all : List Content) (desk : ℕ) (e : Event) (grown : ℕ) (r : Result (Unit {0}) StepFault)
+      → OnOk r ((after : List Content) × AreMade (is_lasting e) before behind all after e mid.params mid.number)
+      → IfErr r (λ f. IsChangeCause mid e grown f × IsSameSet before behind) → PagesComeTo old before behind all desk e grown r
+  pages_come before behind all desk e grown (Ok done) (after, made) why = (
     after,
-    stands,
     subst (λ n. AreMade (is_lasting e) before behind all after e old.params n) same.number
         (subst (λ (p : Params). AreMade (is_lasting e) before behind all after e p mid.number) same.params made),
   )
-  comes_since new before behind all base desk e grown (Err f) (cause, kept) = (cause_since desk e grown f cause, kept)
+  pages_come before behind all desk e grown (Err f) made why = (cause_since desk e grown f (as_cause mid desk e grown f why.0), why.1)
+
+  -- and what the act comes to
+  pub made_comes : (new : Core) (before behind : PageMap) (all : List Content) (base : Index) (desk : ℕ) (e : Event) (left grown : ℕ)
+      → MayCommit old before all base desk e left grown → IsMade mid new desk e left → mid.number < 2 ^ 64
+      → PagesComeTo old before behind all desk e grown (Ok tt) → ComesTo old new before behind all base desk e grown (Ok tt)
+  made_comes new before behind all base desk e left grown may made low (after, pages) = (
+    after,
+    next_stands old new before behind all after base desk e left (subst (λ n. n < 2 ^ 64) same.number low) may.stands may.legal may.left_is
+        (made_since new desk e left made) pages,
+    pages,
+  )

@@ -10,3 +10,9 @@ pub mod SteppedBy
 pub mod SameIndex
 pub mod TurnLaws
 pub mod SettledLaws
+pub mod GivenBack
+pub mod ChangesSaid
+pub mod PlacesThere
+pub mod ChangesMade
+pub mod Changed
+pub mod PartsServe

@@ -7,7 +7,7 @@ use Rattle.vec_history.specs.declared.event.Act.{Act}
 use Rattle.vec_history.specs.Acts.{act_of}
 use Rattle.vec_history.specs.Settling.{is_lasting}
 use Rattle.history_tables.specs.Rooms.{room_in_all, spent}
-use Rattle.history_tables.specs.Telling.{Tells}
+use Rattle.history_tables.specs.Telling.{Tells, IsToldEnd}
 use Rattle.page_bytes.specs.Content.{Content}
 use Rattle.graph_pages.specs.Growing.{blocks_after}
 use Rattle.graph_pages.specs.Fitting.{FitsEach}
@@ -23,7 +23,8 @@ use Rattle.vec_steps.specs.Index.{Index, IsLegal}
 use Rattle.vec_steps.specs.Desks.{Room, taken_by, used_after}
 use Rattle.index_pages.specs.Standing.{index_after}
 use Rattle.vec_board.specs.declared.board_core.Core.{Core}
-use Rattle.vec_board.specs.Ready.{HasOwnRoom}
+use Rattle.vec_board.specs.Keeping.{one_if_ends}
+use Rattle.vec_board.specs.Ready.{IsReady, HasOwnRoom}
 use Rattle.vec_board.specs.Summaries.{summary_after, IsLeft}
 use Rattle.vec_board.specs.Standing.{StandsOn, acts_of}
 
@@ -123,6 +124,21 @@ pub record IsTaken (core : Core) (e : Event) (grown : ℕ) : Type 0 where
   pub room : (newer_of core.log).used + (length (spelling e) + 5) ≤ MOST_USED
   pub blocks : blocks_after e core.summary.blocks ≤ core.summary.blocks + grown
   pub few : blocks_after e core.summary.blocks < 2 ^ 32
+
+-- There is room for the act, the log takes its event, and it ends what stands, if it is an end.
+pub record IsPrepared (core : Core) (desk : ℕ) (e : Event) : Type 0 where
+  pub ready : IsReady core.history desk e
+  pub log : IsLogReady core desk e
+  pub ends : one_if_ends e ≡ 1 → IsToldEnd core.history.tables desk e
+  pub written : is_lasting e ≡ true → IsWritable e
+  pub room : is_lasting e ≡ true → (newer_of core.log).used + (length (spelling e) + 5) ≤ MOST_USED
+  pub few : is_lasting e ≡ true → blocks_after e core.summary.blocks < 2 ^ 32
+
+-- what becomes of the pages for an act that is to be made
+abbrev pub PagesComeTo : Core → PageMap → PageMap → List Content → ℕ → Event → ℕ → Result (Unit {0}) StepFault → Type 0
+PagesComeTo old before behind all desk e grown (Ok done) =
+    (after : List Content) × AreMade (is_lasting e) before behind all after e old.params old.number
+PagesComeTo old before behind all desk e grown (Err fault) = IsCause old desk e grown fault × IsSameSet before behind
 
 -- this event is one that the pages and the log take
 pub record MayChange (core : Core) (all : List Content) (e : Event) (grown : ℕ) : Type 0 where

@@ -7,3 +7,5 @@ pub mod Acting
 pub mod Looking
 pub mod Serving
 pub mod Settling
+pub mod Changes
+pub mod AllAsks

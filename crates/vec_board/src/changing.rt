@@ -72,7 +72,7 @@ impl Core {
 
     /// Does an event to the pages, if it is lasting and the log takes it. The set has the pages that it touches; it comes to have
     /// at most so many new ones.
-    pub(crate) fn change<P: PageSet>(
+    pub(crate) fn change_pages<P: PageSet>(
         &self,
         event: &Event,
         grown: u32,

@@ -16,7 +16,7 @@ ghost use Rattle.vec_board.specs.Ready.{IsReady, HasOwnRoom};
 ghost use Rattle.vec_steps.specs.declared.room.TheConstants.{LOG_ROOM};
 ghost use Rattle.vec_steps.specs.Desks.{used_after};
 ghost use Rattle.vec_board.specs.Standing.{acts_of};
-ghost use Rattle.vec_board.specs.Acting.{IsMade, IsAsBefore, IsLogReady, IsChangeFault, IsCommitFault, ComesTo, MayCommit};
+ghost use Rattle.vec_board.specs.Acting.{IsMade, IsAsBefore, IsLogReady, IsPrepared, IsCommitFault, ComesTo, PagesComeTo, MayCommit};
 ghost use Rattle.vec_board.specs.Acting.{number_after, log_after, room_of};
 
 use crate::board_core::Core;
@@ -86,6 +86,33 @@ impl Core {
         }
     }
 
+    /// All of an act that can be refused: makes room for it where it has none of its own, and does its lasting event to the pages of
+    /// the set. It is not made yet: `record` is to follow, which can't be refused.
+    pub(crate) fn prepare<P: PageSet>(
+        &mut self,
+        desk: u32,
+        event: &Event,
+        grown: u32,
+        pages: &mut P,
+    ) -> Result<(), StepFault>
+        requires { P.may_add pages.old self.old.summary.blocks }
+        ensures prepared { OnOk result (IsPrepared self.new desk event.now) }
+        ensures kept { IsAsBefore self.old self.new }
+        ensures comes { (all : List Content) (base : Index) (left : ℕ)
+            → MayCommit self.old (P.held pages.old) all base desk event.now left grown
+            → PagesComeTo self.old (P.held pages.old) (P.held pages.new) all desk event.now grown result }
+        ensures fault { IfErr result (IsCommitFault self.old desk event.now grown) }
+        ensures next { OnOk result (P.may_add pages.new (blocks_after event.now self.new.summary.blocks)) }
+    {
+        if !self.history.may_end(desk, event) {
+            return Err(not_allowed());
+        }
+        match self.make_room(desk, event) {
+            Ok(()) => self.change_pages(event, grown, pages),
+            Err(fault) => Err(fault),
+        }
+    }
+
     /// The act is made: its pages are changed already.
     pub(crate) fn record(&mut self, desk: u32, event: Event, left: u8)
         requires ready { IsReady self.old.history desk event }
@@ -96,40 +123,12 @@ impl Core {
         requires few { is_lasting event ≡ true → blocks_after event self.old.summary.blocks < 2 ^ 32 }
         ensures made { IsMade self.old self.new desk event left }
         ensures number { self.old.number < 2 ^ 64 }
+        ensures room { is_lasting event ≡ true → used_after (room_of self.new) (acts_of self.new) ≤ LOG_ROOM }
     {
         self.summary = summary_after(self.summary, &event, left);
         self.number = number_after(&event, self.number);
         log_event(&mut self.log, &event);
         self.history.add(desk, event);
-    }
-
-    // The same, where there is room for the act and it ends what stands, if it is an end.
-    fn commit_ready<P: PageSet>(
-        &mut self,
-        desk: u32,
-        event: Event,
-        left: u8,
-        grown: u32,
-        pages: &mut P,
-    ) -> Result<(), StepFault>
-        requires next { P.may_add pages.old self.old.summary.blocks }
-        requires ready { IsReady self.old.history desk event }
-        requires log { IsLogReady self.old desk event }
-        requires ends { one_if_ends event ≡ 1 → IsToldEnd self.old.history.tables desk event }
-        ensures made { OnOk result (IsMade self.old self.new desk event left) }
-        ensures kept { OnErr result (IsAsBefore self.old self.new) }
-        ensures comes { (all : List Content) (base : Index) → MayCommit self.old (P.held pages.old) all base desk event left grown
-            → ComesTo self.old self.new (P.held pages.old) (P.held pages.new) all base desk event grown result }
-        ensures fault { IfErr result (IsChangeFault grown) }
-        ensures next { OnOk result (P.may_add pages.new self.new.summary.blocks) }
-    {
-        match self.change(&event, grown, pages) {
-            Ok(()) => {
-                self.record(desk, event, left);
-                Ok(())
-            }
-            Err(fault) => Err(fault),
-        }
     }
 
     /// Makes an act of a desk: the one way by which an act is made. Its lasting event goes to the log and is done to the pages of
@@ -156,11 +155,11 @@ impl Core {
         ensures fault { IfErr result (IsCommitFault self.old desk event grown) }
         ensures next { OnOk result (P.may_add pages.new self.new.summary.blocks) }
     {
-        if !self.history.may_end(desk, &event) {
-            return Err(not_allowed());
-        }
-        match self.make_room(desk, &event) {
-            Ok(()) => self.commit_ready(desk, event, left, grown, pages),
+        match self.prepare(desk, &event, grown, pages) {
+            Ok(()) => {
+                self.record(desk, event, left);
+                Ok(())
+            }
             Err(fault) => Err(fault),
         }
     }

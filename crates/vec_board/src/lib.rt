@@ -2,14 +2,17 @@
 #![tactic(auto)]
 
 mod board_core;
+mod changes;
 mod changing;
 mod commit;
 mod ending;
+mod events;
 mod history;
 mod limits;
 mod looks;
 mod passing;
 mod reserving;
+mod serve;
 mod settling;
 mod summary;
 mod turns;
