@@ -7,3 +7,7 @@ pub mod Lowering
 pub mod Entering
 pub mod Chosen
 pub mod LayersFound
+pub mod SlotsSeen
+pub mod Linked
+pub mod TriesMade
+pub mod SlotChosen

@@ -3,3 +3,4 @@ pub mod Looking
 pub mod Telling
 pub mod Running
 pub mod Listing
+pub mod Linking

@@ -2,17 +2,21 @@
 #![tactic(auto)]
 
 mod aim;
+mod back;
 mod choosing;
 mod descending;
 mod expanding;
 mod found_lists;
+mod linking;
 mod listing;
 mod looking;
 mod plan;
 mod searching;
+mod seeing;
 
 pub use descending::{Descent, descend};
 pub use found_lists::FoundLists;
+pub use linking::link_back;
 pub use listing::find_lists;
 pub use searching::search_layer;
 
