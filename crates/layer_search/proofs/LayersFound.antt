@@ -1,5 +1,8 @@
 -- The lists of a new node, layer after layer.
-use Rattle.std.proofs.Common.{◌≡◌, ℕ, suc, ◌+◌, ◌-◌, ◌==◌, ◌*◌, ◌<◌, ◌≤◌, Bool, true, false, if◌then◌else◌, List, [], ◌++◌, map, length, min, replicate, Option, Some, None, refl, sym, ap, subst, ◌∙◌, arith, append_assoc, append-nil}
+use Rattle.std.proofs.Common.{◌≡◌, ℕ, zero, suc, ◌+◌, ◌-◌, ◌==◌, ◌*◌, ◌<◌, ◌≤◌, Bool, true, false, if◌then◌else◌, List, [], ◌∷◌, ◌++◌, map, length, min, replicate, Option, Some, None, refl, sym, ap, subst, ◌∙◌, arith, append_assoc, append-nil}
+use Rattle.std.specs.Prelude.{slice_get}
+use Rattle.std.specs.List.{AllByRecursion, cons_option, filter_map}
+use Rattle.std.proofs.lemmas.Option.{none-some, same_Some}
 use Rattle.std.proofs.lemmas.Bool.Decides.{nat_tests}
 use Rattle.vec_names.specs.declared.tid.Tid.{Tid}
 use Rattle.vec_names.specs.declared.params.Params.{Params}
@@ -8,10 +11,12 @@ use Rattle.vec_names.specs.declared.params.Kind.TheVariants.{Hnsw}
 use Rattle.vec_names.specs.Params.{IsGraphInRange, IsInRange, IsInRangeOf}
 use Rattle.vec_history.specs.declared.event.Act.{Act}
 use Rattle.neighbour_pick.specs.declared.found.Found.{Found}
+use Rattle.neighbour_pick.specs.Order.{candidate_of}
+use Rattle.neighbour_pick.specs.Selection.{picked}
 use Rattle.graph_search.specs.Reads.{Look, Answer}
 use Rattle.graph_search.specs.Search.{LayerSearch}
 use Rattle.graph_search.specs.Descent.{Descent, or_from, start_at}
-use Rattle.graph_search.specs.Insert.{Lists, ListsDown, Newcomer, chosen, layer_part, no_neighbours, without}
+use Rattle.graph_search.specs.Insert.{Lists, ListsDown, Newcomer, chosen, layer_part, most_in, no_neighbours, without}
 use Rattle.search_sets.specs.Standing.{spot_of}
 use Rattle.vec_steps.specs.Index.{Index, OfNodes, OfLists}
 use Rattle.vec_steps.specs.Desks.{Desk}
@@ -20,9 +25,9 @@ use Rattle.layer_search.specs.Waiting.{AreApart, AreLong}
 use Rattle.layer_search.specs.Telling.{OverSpots, StandThere, StandsAt}
 use Rattle.layer_search.specs.Looking.{MadeLooks}
 use Rattle.layer_search.specs.Running.{Descends, SearchesLayer, next_layer}
-use Rattle.layer_search.specs.Listing.{FindsDown, FindsLayer, FindsLists, TakesLayer, lists_of, near_after}
+use Rattle.layer_search.specs.Listing.{ArePicksLong, FindsDown, FindsLayer, FindsLists, TakesLayer, lists_of, near_after}
 use Rattle.layer_search.proofs.Looks.{looks_none, looks_then}
-use Rattle.layer_search.proofs.Steadiness.{all_kept, apart_kept}
+use Rattle.layer_search.proofs.Steadiness.{all_both, all_kept, apart_kept}
 use Rattle.layer_search.proofs.Told.{all_spots, spots_all}
 use Rattle.layer_search.proofs.Lowering.{or_apart, or_long, or_over}
 
@@ -61,6 +66,37 @@ near_over {stands} {acts} n layer at found from base o there =
       | true ↦ record { stood = o.stood; there = kept_there n.except acts layer found base o.there }
       | false ↦ or_over layer found from base o there
     ]
+
+-- ---- the values of the neighbours
+
+all_at : (P : Found → Type 0) (es : List Found) (k : ℕ) (o : Option Found) → slice_get es k ≡ o → AllByRecursion P es → AllByRecursion P (cons_option o [])
+all_at P es k None is all = tt
+all_at P [] k (Some e) is all = absurd (none-some e is)
+all_at P (x ∷ es) zero (Some e) is all = (subst P (same_Some x e is) all.0, tt)
+all_at P (x ∷ es) (suc k) (Some e) is all = all_at P es k (Some e) is all.1
+
+cons_all : (P : Found → Type 0) (o : Option Found) (es : List Found) → AllByRecursion P (cons_option o []) → AllByRecursion P es → AllByRecursion P (cons_option o es)
+cons_all P None es a b = b
+cons_all P (Some e) es a b = (a.0, b)
+
+-- those at some places among elements that are so
+pub all_places : (P : Found → Type 0) (es : List Found) (places : List ℕ) → AllByRecursion P es → AllByRecursion P (filter_map (slice_get es) places)
+all_places P es [] all = tt
+all_places P es (k ∷ places) all = cons_all P (slice_get es k) (filter_map (slice_get es) places) (all_at P es k (slice_get es k) refl all) (all_places P es places all)
+
+pairs_long : (long layer : ℕ) (es : List Found) → AreLong long es → ArePicksLong long (map (λ e. (layer, e)) es)
+pairs_long long layer [] all = tt
+pairs_long long layer (e ∷ es) all = (all.0, pairs_long long layer es all.1)
+
+pub picks_after : (n : Newcomer) (layer long : ℕ) (found : List Found) (was after : FoundLists) → TakesLayer n layer found was after → AreLong long found
+    → ArePicksLong long was.picks → ArePicksLong long after.picks
+picks_after n layer long found was after takes all before =
+    let others : List Found = without n.except found in
+    subst (ArePicksLong long) (sym takes.picks_are)
+    (all_both (λ (p : ℕ × Found). length p.1.bits ≡ long) was.picks (map (λ e. (layer, e)) (chosen n layer found)) before
+    (pairs_long long layer (chosen n layer found)
+    (all_places (λ (e : Found). length e.bits ≡ long) others (picked n.ops (map candidate_of others) (most_in n.m layer))
+    (all_kept (λ (e : Found). length e.bits ≡ long) _ found all))))
 
 -- ---- one layer
 

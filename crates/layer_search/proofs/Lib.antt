@@ -10,3 +10,7 @@ pub mod LayersFound
 pub mod Marks
 pub mod Exactness
 pub mod Taking
+pub mod SlotsSeen
+pub mod Linked
+pub mod TriesMade
+pub mod SlotChosen

@@ -84,7 +84,7 @@ module _ {stands : Index → Type 0} {d : Desk} {old new : List Act} {before now
 
 -- ---- faults
 
-looks_are : (course : List (ℕ × Step)) (reads : List (Look × Answer)) → AreDeeds course (looks_of reads) → Looks course
+pub looks_are : (course : List (ℕ × Step)) (reads : List (Look × Answer)) → AreDeeds course (looks_of reads) → Looks course
 looks_are [] [] are = tt
 looks_are [] (r ∷ reads) are = absurd are
 looks_are (s ∷ course) [] are = absurd are

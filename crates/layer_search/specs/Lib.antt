@@ -4,3 +4,4 @@ pub mod Telling
 pub mod Running
 pub mod Listing
 pub mod Resuming
+pub mod Linking

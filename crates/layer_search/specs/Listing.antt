@@ -1,6 +1,6 @@
 -- The lists of a new node: what the parts of their search do.
-use Rattle.std.specs.Prelude.{◌≡◌, ℕ, ◌+◌, ◌==◌, if◌then◌else◌, Bool, List, ◌++◌, map, slice_get, Option, Some, None}
-use Rattle.std.specs.List.{filter_map}
+use Rattle.std.specs.Prelude.{◌≡◌, ℕ, ◌+◌, ◌==◌, if◌then◌else◌, Bool, List, ◌++◌, map, length, slice_get, Option, Some, None}
+use Rattle.std.specs.List.{AllByRecursion, filter_map}
 use Rattle.vec_names.specs.declared.tid.Tid.{Tid}
 use Rattle.vec_names.specs.declared.params.Params.{Params}
 use Rattle.vec_history.specs.declared.event.Act.{Act}
@@ -47,6 +47,10 @@ newcomer_of plan bits = record {
 -- what was found, in the words of an insert
 abbrev pub lists_of : FoundLists → Lists
 lists_of f = record { slots = f.lists; picks = f.picks; near = f.near }
+
+-- the values of the neighbours have so many places
+abbrev pub ArePicksLong : ℕ → List (ℕ × Found) → Type 0
+ArePicksLong n picks = AllByRecursion (λ p. length p.1.bits ≡ n) picks
 
 -- the neighbours in the plan's layer among these elements, in the order of their choice
 abbrev pub picked_from : Plan → List Found → List Found

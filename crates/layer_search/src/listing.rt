@@ -9,7 +9,7 @@ ghost use Rattle.vec_steps.specs.Calls.{Goes};
 ghost use Rattle.layer_search.specs.Waiting.{AreApart, AreLong};
 ghost use Rattle.layer_search.specs.Telling.{OverSpots};
 ghost use Rattle.layer_search.specs.Looking.{EndedBy};
-ghost use Rattle.layer_search.specs.Listing.{FindsDown, FindsLayer, FindsLists, lists_of, newcomer_in, newcomer_of};
+ghost use Rattle.layer_search.specs.Listing.{ArePicksLong, FindsDown, FindsLayer, FindsLists, lists_of, newcomer_in, newcomer_of};
 
 use crate::aim::{Aim, Work};
 use crate::choosing::{add_all_slots, add_layer, add_layers_above};
@@ -47,6 +47,8 @@ pub fn find_lists<S: Steps>(
     ensures ok { IfOk result (λ f. FindsLists (OverSpots (S.stands steps.old) (S.seen steps.old) 0 []) (S.desk steps.old)
         (S.seen steps.old) (S.seen steps.new) trace.old.reads trace.new.reads
         (newcomer_in (S.desk steps.old).params bits.now level except) f.top (lists_of f)) }
+    ensures picks_long { IfOk result (λ f. ArePicksLong (S.desk steps.old).params.bits f.picks) }
+    ensures near_long { IfOk result (λ f. AreLong (S.desk steps.old).params.bits f.near) }
     ensures err { IfErr result (EndedBy (OverSpots (S.stands steps.old) (S.seen steps.old) 0 []) (S.desk steps.old)
         (S.seen steps.old) (S.seen steps.new)) }
 {
@@ -94,6 +96,8 @@ fn find_in<S: Steps>(
     ensures ok { IfOk result (λ top. FindsLists (OverSpots (S.stands steps.old) (S.seen steps.old) 0 []) (S.desk steps.old)
         (S.seen steps.old) (S.seen steps.new) trace.old.reads trace.new.reads
         (newcomer_of plan query.now) top (lists_of lists.new)) }
+    ensures picks_long { OnOk result (ArePicksLong (S.desk steps.old).params.bits lists.new.picks) }
+    ensures near_long { OnOk result (AreLong (S.desk steps.old).params.bits lists.new.near) }
     ensures err { IfErr result (EndedBy (OverSpots (S.stands steps.old) (S.seen steps.old) 0 []) (S.desk steps.old)
         (S.seen steps.old) (S.seen steps.new)) }
 {
@@ -123,11 +127,14 @@ fn find_down<S: Steps>(
     requires ef { 1 ≤ plan.ef }
     requires apart { AreApart lists.old.near }
     requires long { AreLong (S.desk steps.old).params.bits lists.old.near }
+    requires picks_long { ArePicksLong (S.desk steps.old).params.bits lists.old.picks }
     ensures goes { Goes S.desk S.stands S.comes_from
         (OverSpots (S.stands steps.old) (S.seen steps.old) plan.layer (map spot_of lists.old.near)) steps.old steps.new }
     ensures ok { OnOk result (FindsDown (OverSpots (S.stands steps.old) (S.seen steps.old) plan.layer (map spot_of lists.old.near))
         (S.desk steps.old) (S.seen steps.old) (S.seen steps.new) trace.old.reads trace.new.reads
         (newcomer_of plan query.now) (plan.layer + 1) lists.old lists.new) }
+    ensures picks_long { OnOk result (ArePicksLong (S.desk steps.old).params.bits lists.new.picks) }
+    ensures near_long { OnOk result (AreLong (S.desk steps.old).params.bits lists.new.near) }
     ensures err { IfErr result (EndedBy
         (OverSpots (S.stands steps.old) (S.seen steps.old) plan.layer (map spot_of lists.old.near))
         (S.desk steps.old) (S.seen steps.old) (S.seen steps.new)) }
@@ -155,11 +162,13 @@ fn find_layer<S: Steps>(
     requires ef { 1 ≤ plan.ef }
     requires apart { AreApart lists.old.near }
     requires long { AreLong (S.desk steps.old).params.bits lists.old.near }
+    requires picks_long { ArePicksLong (S.desk steps.old).params.bits lists.old.picks }
     ensures goes { Goes S.desk S.stands S.comes_from
         (OverSpots (S.stands steps.old) (S.seen steps.old) plan.layer (map spot_of lists.old.near)) steps.old steps.new }
     ensures bits { OnOk result (length work.new.room.told.bits ≡ (S.desk steps.old).params.bits) }
     ensures apart { OnOk result (AreApart lists.new.near) }
     ensures long { OnOk result (AreLong (S.desk steps.old).params.bits lists.new.near) }
+    ensures picks_long { OnOk result (ArePicksLong (S.desk steps.old).params.bits lists.new.picks) }
     ensures told { OnOk result ((base : Index)
         → OverSpots (S.stands steps.old) (S.seen steps.old) plan.layer (map spot_of lists.old.near) base
         → OverSpots (S.stands steps.new) (S.seen steps.new) plan.layer (map spot_of lists.new.near) base) }

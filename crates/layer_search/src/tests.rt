@@ -1,6 +1,7 @@
 ghost use Rattle.std.specs.Prelude.{◌≡◌, ◌≤◌, IfOk, length};
 ghost use Rattle.vec_names.specs.Params.{IsInRange};
 
+mod links;
 mod lists;
 
 use crate::*;

@@ -13,7 +13,7 @@ use vec_names::{Kind, Listed, Mapped, Ops, Params, Tid};
 use vec_steps::{StillDesk, Trace};
 
 // A desk over these nodes, with m 2 and ef 4, and with an entry point at 1/1 of a level, or without one.
-fn desk_of(nodes: Mapped<Node>, level: Option<u8>) -> StillDesk
+pub(super) fn desk_of(nodes: Mapped<Node>, level: Option<u8>) -> StillDesk
     ensures range { IsInRange result.graph.params }
     ensures bits { result.graph.params.bits ≡ 4 }
     ensures nodes { result.graph.params.kind ≡ Hnsw }
@@ -41,7 +41,7 @@ fn desk_of(nodes: Mapped<Node>, level: Option<u8>) -> StillDesk
     StillDesk { number: 7, graph }
 }
 
-fn no_reads(alloc: Global) -> Trace {
+pub(super) fn no_reads(alloc: Global) -> Trace {
     Trace {
         reads: Listed::new(alloc),
     }

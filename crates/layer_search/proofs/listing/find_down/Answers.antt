@@ -5,7 +5,7 @@ use Rattle.vec_steps.proofs.Following.{goes_nowhere, goes_then}
 use Rattle.layer_search.specs.Waiting.{AreLong}
 use Rattle.layer_search.specs.Telling.{OverSpots}
 use Rattle.layer_search.specs.Looking.{EndedBy}
-use Rattle.layer_search.specs.Listing.{newcomer_of}
+use Rattle.layer_search.specs.Listing.{ArePicksLong, newcomer_of}
 use Rattle.layer_search.proofs.Looks.{ended_then, fails}
 use Rattle.layer_search.proofs.Lowering.{over_lower}
 use Rattle.layer_search.proofs.LayersFound.{ListedSo, listed_end, listed_more, listed_none}
@@ -17,6 +17,7 @@ layers-init g c = record {
   bits = c.requires.bits;
   apart = c.requires.apart;
   long = c.requires.long;
+  picks_long = c.requires.picks_long;
   low = omega arith;
   told = λ base o. o;
   so_far = listed_none (g.S.Steps.seen c.args.steps.now) c.args.trace.now.reads (newcomer_of c.args.plan c.args.query.now) c.args.plan.layer c.args.lists.now;
@@ -40,6 +41,7 @@ layers-preserved g c =
       bits = now.bits ∙ ap (λ (d : Desk). d.params.bits) so.goes.stays;
       apart = now.apart;
       long = subst (λ (d : Desk). AreLong d.params.bits lists.near) so.goes.stays now.long;
+      picks_long = subst (λ (d : Desk). ArePicksLong d.params.bits lists.picks) so.goes.stays now.picks_long;
       low = omega (arith, so.low);
       told = λ base o. over_lower c.layers.layer (c.layers.layer - 1) (omega arith) (map spot_of lists.near) base (now.told base (so.told base o));
       so_far = listed_more (newcomer_of c.args.plan c.args.query.now) c.args.plan.layer c.layers.layer c.args.lists.now c.layers.lists lists so.goes.stays so.told
@@ -79,3 +81,19 @@ returns-clause-ok g c =
     (subst (λ (k : ℕ). ListedSo over (g.S.Steps.desk c.args.steps.now) (g.S.Steps.seen c.args.steps.now) (g.S.Steps.seen c.layers.steps) c.args.trace.now.reads
     c.layers.trace.reads (newcomer_of c.args.plan c.args.query.now) c.args.plan.layer k c.args.lists.now c.layers.lists) lowest so.so_far)
     c.in_ok-find_layer-2.ensures.ok
+
+pub returns-clause-picks_long : goal.returns-clause-picks_long
+returns-clause-picks_long g c =
+    subst (λ (d : Desk). ArePicksLong d.params.bits c.find_layer-2.new.lists.picks) c.layers.invariant.goes.stays c.in_ok-find_layer-2.ensures.picks_long
+
+pub returns-clause-near_long : goal.returns-clause-near_long
+returns-clause-near_long g c =
+    subst (λ (d : Desk). AreLong d.params.bits c.find_layer-2.new.lists.near) c.layers.invariant.goes.stays c.in_ok-find_layer-2.ensures.long
+
+pub find_layer-requires-clause-picks_long : goal.find_layer-requires-clause-picks_long
+find_layer-requires-clause-picks_long g c =
+    subst (λ (d : Desk). ArePicksLong d.params.bits c.layers.lists.picks) (sym c.layers.invariant.goes.stays) c.layers.invariant.picks_long
+
+pub find_layer-requires-2-clause-picks_long : goal.find_layer-requires-2-clause-picks_long
+find_layer-requires-2-clause-picks_long g c =
+    subst (λ (d : Desk). ArePicksLong d.params.bits c.layers.lists.picks) (sym c.layers.invariant.goes.stays) c.layers.invariant.picks_long

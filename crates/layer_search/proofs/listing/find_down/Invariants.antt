@@ -4,7 +4,7 @@ use Rattle.vec_steps.specs.Index.{Index}
 use Rattle.vec_steps.specs.Calls.{Goes}
 use Rattle.layer_search.specs.Waiting.{AreApart, AreLong}
 use Rattle.layer_search.specs.Telling.{OverSpots}
-use Rattle.layer_search.specs.Listing.{newcomer_of}
+use Rattle.layer_search.specs.Listing.{ArePicksLong, newcomer_of}
 use Rattle.layer_search.proofs.LayersFound.{ListedSo}
 use Rattle.layer_search.proofs.listing.find_down.Given as goal
 
@@ -18,6 +18,7 @@ invariant-layers g l =
       bits : length l.work.room.told.bits ≡ (S.desk l.fn.steps).params.bits;
       apart : AreApart l.lists.near;
       long : AreLong (S.desk l.fn.steps).params.bits l.lists.near;
+      picks_long : ArePicksLong (S.desk l.fn.steps).params.bits l.lists.picks;
       low : l.layer ≤ l.plan.layer;
       told : (base : Index) → over base → OverSpots (S.stands l.steps) (S.seen l.steps) l.layer (map spot_of l.lists.near) base;
       so_far : ListedSo over (S.desk l.fn.steps) (S.seen l.fn.steps) (S.seen l.steps) l.fn.trace.reads l.trace.reads (newcomer_of l.plan l.query)

@@ -1,11 +1,13 @@
 use Rattle.std.proofs.Common.{◌∙◌, ◌++◌, ◌*◌, ◌-◌, [], List, Option, None, refl, sym, ap, subst}
 use Rattle.std.specs.Prelude.{replicate}
 use Rattle.vec_names.specs.declared.tid.Tid.{Tid}
+use Rattle.vec_steps.specs.Desks.{Desk}
 use Rattle.vec_steps.proofs.Following.{goes_then}
+use Rattle.layer_search.specs.Waiting.{AreLong}
 use Rattle.graph_search.specs.Insert.{no_neighbours}
 use Rattle.layer_search.specs.Telling.{OverSpots}
 use Rattle.layer_search.specs.Looking.{EndedBy}
-use Rattle.layer_search.specs.Listing.{newcomer_of}
+use Rattle.layer_search.specs.Listing.{ArePicksLong, newcomer_of}
 use Rattle.layer_search.proofs.Looks.{ended_memory, ended_then, fails}
 use Rattle.layer_search.proofs.LayersFound.{down_over, lists_from, lists_none}
 use Rattle.layer_search.proofs.listing.find_in.Goals as goal
@@ -61,3 +63,20 @@ returns-clause-ok g c =
     c.in-Some.is c.min-layer.ensures (e.told base o)) e.ok c.in-Some.is
     (c.in_ok-add_layers_above.ensures ∙ ap (λ (l : List (Option Tid)). l ++ replicate ((c.args.plan.level - c.in-Some.top) * c.args.plan.m) None) c.requires.no_lists)
     c.requires.no_picks refl c.min-layer.ensures c.in_ok-find_down.ensures.ok
+
+pub returns-in_default-clause-picks_long : goal.returns-in_default-clause-picks_long
+returns-in_default-clause-picks_long g c = subst (ArePicksLong (g.S.Steps.desk c.args.steps.now).params.bits) (sym c.requires.no_picks) tt
+
+pub returns-in_default-clause-near_long : goal.returns-in_default-clause-near_long
+returns-in_default-clause-near_long g c = subst (AreLong (g.S.Steps.desk c.args.steps.now).params.bits) (sym c.requires.no_near) tt
+
+pub find_down-requires-clause-picks_long : goal.find_down-requires-clause-picks_long
+find_down-requires-clause-picks_long g c = subst (ArePicksLong (g.S.Steps.desk c.descend_in.new.steps).params.bits) (sym c.requires.no_picks) tt
+
+pub returns-clause-picks_long : goal.returns-clause-picks_long
+returns-clause-picks_long g c =
+    subst (λ (d : Desk). ArePicksLong d.params.bits c.find_down.new.lists.picks) c.in_ok-descent.ensures.goes.stays c.in_ok-find_down.ensures.picks_long
+
+pub returns-clause-near_long : goal.returns-clause-near_long
+returns-clause-near_long g c =
+    subst (λ (d : Desk). AreLong d.params.bits c.find_down.new.lists.near) c.in_ok-descent.ensures.goes.stays c.in_ok-find_down.ensures.near_long

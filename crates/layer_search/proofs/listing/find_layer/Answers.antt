@@ -10,7 +10,7 @@ use Rattle.layer_search.proofs.Looks.{ended_memory, fails}
 use Rattle.layer_search.proofs.Told.{stand_later}
 use Rattle.layer_search.proofs.Lowering.{over_slice}
 use Rattle.layer_search.proofs.Chosen.{found_sorted}
-use Rattle.layer_search.proofs.LayersFound.{near_apart, near_long, near_over}
+use Rattle.layer_search.proofs.LayersFound.{near_apart, near_long, near_over, picks_after}
 use Rattle.layer_search.proofs.listing.find_layer.Goals as goal
 
 pub add_layer-requires-clause-rising : goal.add_layer-requires-clause-rising
@@ -47,3 +47,8 @@ returns-clause-told g c = λ base o.
     (near_over (newcomer_of c.args.plan []) layer layer c.in_ok-found.found near base after
     (stand_later layer (map spot_of near) base (g.met.S.Steps.shaped now base after.stood) (g.met.S.Steps.legal now base after.stood)
     c.in_ok-found.ensures.ok.made.does.acts o.there))
+
+pub returns-clause-picks_long : goal.returns-clause-picks_long
+returns-clause-picks_long g c =
+    picks_after (newcomer_of c.args.plan []) c.args.plan.layer (g.S.Steps.desk c.args.steps.now).params.bits c.in_ok-found.found c.args.lists.now c.add_layer.new.lists
+    c.in_ok-add_layer.ensures.ok c.in_ok-found.ensures.long c.requires.picks_long
