@@ -10,3 +10,4 @@ pub mod Nothing
 pub mod Worked
 pub mod DoomedCount
 pub mod Remains
+pub mod NoneDoomed

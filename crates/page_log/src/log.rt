@@ -139,6 +139,7 @@ impl Log {
         ensures memory { IfErr result IsMemory }
         ensures spare { self.new.spare ≡ self.old.spare }
         ensures epoch { self.new.epoch ≡ self.old.epoch }
+        ensures used { self.new.used ≡ self.old.used }
     {
         match self.back.take() {
             None => self.take_newer(),
@@ -155,6 +156,7 @@ impl Log {
         ensures memory { IfErr result IsMemory }
         ensures spare { self.new.spare ≡ self.old.spare }
         ensures epoch { self.new.epoch ≡ self.old.epoch }
+        ensures used { self.new.used ≡ self.old.used }
     {
         let at = self.end;
         if self.fresh.is_empty() {
@@ -191,6 +193,7 @@ impl Log {
         ensures memory { IfErr result IsMemory }
         ensures spare { self.new.spare ≡ self.old.spare }
         ensures epoch { self.new.epoch ≡ self.old.epoch }
+        ensures used { self.new.used ≡ self.old.used }
     {
         if pending.fixed {
             return Ok(pending);
@@ -215,6 +218,7 @@ impl Log {
         ensures back { unsettled self.new ≡ out pending (newer_of self.old) }
         ensures spare { self.new.spare ≡ self.old.spare }
         ensures epoch { self.new.epoch ≡ self.old.epoch }
+        ensures used { self.new.used ≡ self.old.used }
     {
         self.back = Some(pending);
     }
@@ -236,6 +240,7 @@ impl Log {
         ensures fault { IfErr result (IsDiskFault (D.count disks.old) (D.count disks.new)) }
         ensures spare { self.new.spare ≡ self.old.spare }
         ensures epoch { self.new.epoch ≡ self.old.epoch }
+        ensures used { self.new.used ≡ self.old.used }
     {
         self.flush_part(disks)?;
         if self.count == 0 {
@@ -258,6 +263,7 @@ impl Log {
         ensures fault { IfErr result (IsDiskFault (D.count disks.old) (D.count disks.new)) }
         ensures spare { self.new.spare ≡ self.old.spare }
         ensures epoch { self.new.epoch ≡ self.old.epoch }
+        ensures used { self.new.used ≡ self.old.used }
     {
         let mut pending = self.take()?;
         match flush_pending(&mut pending, disks) {

@@ -11,3 +11,7 @@ pub mod ChangesSaid
 pub mod PlacesThere
 pub mod ChangesMade
 pub mod Changed
+pub mod RoomSet
+pub mod SameIndex
+pub mod TurnLaws
+pub mod SettledLaws

@@ -7,3 +7,4 @@ pub mod Acting
 pub mod Looking
 pub mod Serving
 pub mod Changes
+pub mod Settling

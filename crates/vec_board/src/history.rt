@@ -1,7 +1,7 @@
 //! The acts of an index, with what they tell and the room for those to come.
 
 ghost use Rattle.std.specs.Prelude.{◌≡◌, ◌+◌, ◌≤◌, ◌<◌, ◌∷◌, ◌++◌, [], length, vec_len, vec_capacity};
-ghost use Rattle.history_tables.specs.Telling.{HasRoom};
+ghost use Rattle.history_tables.specs.Telling.{HasRoom, Tells};
 ghost use Rattle.vec_board.specs.declared.limits.TheConstants.{MOST_ACTS};
 ghost use Rattle.history_tables.specs.Rooms.{room_in_all};
 ghost use Rattle.vec_board.specs.Keeping.{to_come};
@@ -22,12 +22,15 @@ pub struct History {
     ghost acts_room: { vec_len acts + to_come rooms.rooms.items tables ≤ vec_capacity acts },
     ghost few: { vec_len acts + to_come rooms.rooms.items tables ≤ MOST_ACTS },
     ghost holds_room: { HasRoom (room_in_all rooms.rooms.items) tables },
+    ghost told: { ∥ Tells tables acts.items ∥₁ },
 }
 
 impl History {
-    ghost use Rattle.std.specs.Prelude.{ℕ, ◌*◌, List, OnOk, OnErr, IfErr, IsTrue, ◌↔◌};
+    ghost use Rattle.std.specs.Prelude.{ℕ, ◌*◌, ◌≢◌, max, List, OnOk, OnErr, IfErr, IsTrue, ◌↔◌};
+    ghost use Rattle.vec_history.specs.declared.event.Act.{Act as Acts};
     ghost use Rattle.vec_history.specs.Acts.{act_of};
-    ghost use Rattle.history_tables.specs.Telling.{Tells, IsEnd, IsToldEnd, ends_owed};
+    ghost use Rattle.vec_history.specs.Settling.{lasting_events};
+    ghost use Rattle.history_tables.specs.Telling.{IsEnd, IsToldEnd, ends_owed};
     ghost use Rattle.history_tables.specs.Rooms.{room_of, spent};
     ghost use Rattle.vec_board.specs.Keeping.{one_if_ends};
     ghost use Rattle.vec_board.specs.Ready.{IsReady, IsSameHistory, HasOwnRoom};
@@ -58,6 +61,13 @@ impl History {
         ensures { result.now ≡ self.now.tables }
     {
         &self.tables
+    }
+
+    /// How many events of the acts are lasting.
+    pub fn lasting(&self) -> u64
+        ensures { result ≡ lasting_events self.now.acts.items }
+    {
+        self.tables.lasting()
     }
 
     /// For how many acts a desk has room in reserve.
@@ -96,25 +106,43 @@ impl History {
         ensures ready { (desk : ℕ) (e : Events) → OnOk result (IsReady self.new desk e) }
         ensures same { IsSameHistory self.old self.new }
     {
-        self.reserve_two()?;
+        self.reserve_more(1)?;
         Ok(())
     }
 
-    // Room for one act, with the end that it may come to owe.
-    fn reserve_two(&mut self) -> Result<(), AllocError>
+    // Room for so many acts more in reserve, each with the end that it may come to owe.
+    fn reserve_more(&mut self, count: u32) -> Result<(), AllocError>
         ensures acts { OnOk result
-            (vec_len self.new.acts + to_come self.new.rooms.rooms.items self.new.tables + 2 ≤ vec_capacity self.new.acts) }
-        ensures few { OnOk result (vec_len self.new.acts + to_come self.new.rooms.rooms.items self.new.tables + 2 ≤ MOST_ACTS) }
-        ensures holds { OnOk result (HasRoom (room_in_all self.new.rooms.rooms.items + 1) self.new.tables) }
+            (vec_len self.new.acts + to_come self.new.rooms.rooms.items self.new.tables + 2 * count ≤ vec_capacity self.new.acts) }
+        ensures few { OnOk result
+            (vec_len self.new.acts + to_come self.new.rooms.rooms.items self.new.tables + 2 * count ≤ MOST_ACTS) }
+        ensures holds { OnOk result (HasRoom (room_in_all self.new.rooms.rooms.items + count) self.new.tables) }
         ensures same { IsSameHistory self.old self.new }
     {
-        let all = self.rooms.all();
-        let more = 2 * all + self.tables.ends_owed() + 2;
+        let all = self.rooms.all() + u64::from(count);
+        let more = 2 * all + self.tables.ends_owed();
         if self.acts.len() as u64 + more > MOST_ACTS {
             return Err(AllocError);
         }
         self.acts.reserve(more as usize)?;
-        self.tables.reserve(all as usize + 1)
+        self.tables.reserve(all as usize)
+    }
+
+    /// The desk has room in reserve for so many acts at least. It is refused for want of memory; then no room is lost.
+    pub fn reserve(&mut self, desk: u32, count: u32) -> Result<(), AllocError>
+        ensures own { OnOk result (room_of self.new.rooms.rooms.items desk ≡ max count (room_of self.old.rooms.rooms.items desk)) }
+        ensures others { (other : ℕ) → other ≢ desk
+            → room_of self.new.rooms.rooms.items other ≡ room_of self.old.rooms.rooms.items other }
+        ensures all { room_in_all self.new.rooms.rooms.items ≤ room_in_all self.old.rooms.rooms.items + count }
+        ensures acts { self.new.acts.items ≡ self.old.acts.items }
+        ensures tells { (acts : List Acts) → Tells self.old.tables acts → Tells self.new.tables acts }
+        ensures err { OnErr result (self.new.rooms.rooms.items ≡ self.old.rooms.rooms.items) }
+    {
+        if count <= self.rooms.room_of(desk) {
+            return Ok(());
+        }
+        self.reserve_more(count)?;
+        self.rooms.set(desk, count)
     }
 
     /// One act more, which takes one of the desk's room. It takes no memory.

@@ -10,7 +10,11 @@ mod events;
 mod history;
 mod limits;
 mod looks;
+mod passing;
+mod reserving;
+mod settling;
 mod summary;
+mod turns;
 mod writable;
 
 pub use board_core::Core;

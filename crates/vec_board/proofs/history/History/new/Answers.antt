@@ -1,4 +1,6 @@
-use Rattle.std.proofs.Common.{ap, arith}
+use Rattle.std.proofs.Common.{List, sym, ap, subst, arith}
+use Rattle.vec_history.specs.declared.event.Act.{Act}
+use Rattle.history_tables.specs.Telling.{Tells}
 use Rattle.history_tables.specs.Rooms.{room_in_all}
 use Rattle.vec_board.proofs.history.History.new.Goals as goal
 
@@ -14,4 +16,5 @@ invariant_of-result c =
       acts_room = omega (arith, none, owed, len);
       few = omega (arith, none, owed, len);
       holds_room = omega (arith, none, held);
+      told = ∣ subst (λ (l : List Act). Tells c.new-2.result l) (sym items) c.new-2.ensures.tells ∣₁;
     }

@@ -1,5 +1,8 @@
-use Rattle.std.proofs.Common.{arith}
-use Rattle.vec_board.proofs.history.History.reserve_two.Goals as goal
+use Rattle.std.proofs.Common.{List, sym, subst, arith}
+use Rattle.vec_history.specs.declared.event.Act.{Act}
+use Rattle.history_tables.specs.Telling.{Tells}
+use Rattle.std.proofs.Math.Logic.{∥∥₁_map}
+use Rattle.vec_board.proofs.history.History.reserve_more.Goals as goal
 
 pub invariant_of-self-2 : goal.invariant_of-self-2
 invariant_of-self-2 c =
@@ -15,4 +18,6 @@ invariant_of-self-2 c =
       acts_room = omega (arith, room, owed, len, cap);
       few = omega (arith, few, owed, len);
       holds_room = held;
+      told = ∥∥₁_map c.args.self.now.told (λ tells.
+          subst (λ (l : List Act). Tells c.reserve-2.new.self l) (sym c.reserve.ensures.items) (c.reserve-2.ensures.same _ tells));
     }
