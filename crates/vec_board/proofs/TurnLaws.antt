@@ -15,7 +15,7 @@ use Rattle.vec_history.specs.Settling.{is_lasting}
 use Rattle.vec_history.proofs.OneAtATime.{one_phase}
 use Rattle.vec_graph.specs.declared.graph.Graph.{Graph}
 use Rattle.vec_graph.specs.Effect as nodes
-use Rattle.vec_graph.specs.Rules.{IsCancelAllowed}
+use Rattle.vec_graph.specs.Rules.{IsVacuumEndAllowed, IsCancelAllowed}
 use Rattle.graph_law.specs.Counting.{doomed_count}
 use Rattle.graph_law.proofs.NoneDoomed.{none_doomed}
 use Rattle.graph_search.specs.Deeds.{asked, Takes, Releases}
@@ -31,7 +31,7 @@ use Rattle.vec_steps.specs.Index.{Index, OfNodes, OfLists, IsLegal}
 use Rattle.vec_steps.specs.Doing.{Step, did, cleaned, Cleaned, Begins, Ends, Cleared, Says, SaysCleaned, cleaned_events}
 use Rattle.vec_steps.specs.Telling.{step_of}
 use Rattle.vec_steps.specs.Granting.{AgreesAtTake}
-use Rattle.vec_steps.specs.Desks.{MayAsk, Asks, WantsMemory}
+use Rattle.vec_steps.specs.Desks.{Desk, MayAsk, Asks, WantsMemory}
 use Rattle.vec_steps.specs.Calls.{Stepped, SaysOf, made_by}
 use Rattle.vec_steps.proofs.Legality.{goes_on}
 use Rattle.vec_board.specs.declared.board_core.Core.{Core}
@@ -40,6 +40,7 @@ use Rattle.vec_board.specs.Standing.{StandsOn, acts_of}
 use Rattle.vec_board.specs.Acting.{IsCommitFault}
 use Rattle.vec_board.specs.Looking.{desk_of}
 use Rattle.vec_board.specs.Serving.{IsTurnOf, IsBusy, EndsPhase, SaysTurn, MakesTurn, MakesJust, StandsSomehow, ending_of, end_in, spare_of}
+use Rattle.vec_board.proofs.SameIndex.{summary_still}
 use Rattle.vec_board.proofs.SteppedBy.{made_step}
 
 -- ---- events
@@ -230,3 +231,7 @@ module _ (old new : Core) (desk : ℕ) (a : Ask) (t : Told) (made : MakesTurn ol
 
   pub turn_made : (ending : Cleaned) × MakesJust old new desk (made_by old.params (step_of a t ending))
   turn_made = (ending_of made.event, subst (MakesJust old new desk) (sym (turn_makes old.params a t made.event made.of)) (0, made.made))
+
+  -- what is known of the index stays
+  pub turn_summary : new.summary ≡ old.summary
+  turn_summary = made.made.summary ∙ summary_still old.summary made.event 0 (turn_passes a made.event made.of)

@@ -6,5 +6,6 @@ pub mod Standing
 pub mod Acting
 pub mod Looking
 pub mod Serving
-pub mod Changes
 pub mod Settling
+pub mod Changes
+pub mod AllAsks

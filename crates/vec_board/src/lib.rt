@@ -12,6 +12,7 @@ mod limits;
 mod looks;
 mod passing;
 mod reserving;
+mod serve;
 mod settling;
 mod summary;
 mod turns;

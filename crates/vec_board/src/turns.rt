@@ -128,6 +128,7 @@ impl Core {
         ensures err { IsTurn ask.old → IfErr result (Failed (Asks (StandsSomehow self.old) (desk_of self.old desk) (acts_of self.old)
             ask.old) (desk_of self.old desk) (acts_of self.old) (acts_of self.new) ask.old) }
         ensures wants { IfErr result (λ fault. fault ≡ Memory → WantsMemory (spare_of self.old desk) ask.old) }
+        ensures summary { self.new.summary ≡ self.old.summary }
         ensures bits { told.new.bits ≡ told.old.bits }
     {
         told.at = self.history.acts().len() as u64;

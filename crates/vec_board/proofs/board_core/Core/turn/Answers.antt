@@ -1,4 +1,4 @@
-use Rattle.std.proofs.Common.{List, length, sym, ap, subst, ◌∙◌}
+use Rattle.std.proofs.Common.{◌≡◌, List, length, sym, ap, subst, ◌∙◌}
 use Rattle.vec_history.specs.declared.event.Act.{Act}
 use Rattle.vec_steps.specs.declared.told.Told.{Told}
 use Rattle.vec_steps.specs.declared.fault.StepFault.{StepFault}
@@ -8,7 +8,7 @@ use Rattle.vec_board.specs.Standing.{acts_of}
 use Rattle.vec_board.specs.Looking.{desk_of}
 use Rattle.vec_board.specs.Serving.{StandsSomehow}
 use Rattle.vec_board.proofs.SteppedBy.{failed_still}
-use Rattle.vec_board.proofs.TurnLaws.{turned, turn_made, not_busy}
+use Rattle.vec_board.proofs.TurnLaws.{turned, turn_made, turn_summary, not_busy}
 use Rattle.vec_board.proofs.board_core.Core.turn.Goals as goal
 
 pub returns-in-Ok-clause-ok : goal.returns-in-Ok-clause-ok
@@ -34,3 +34,6 @@ returns-in-Err-clause-err c = λ is.
     let agrees = (c.agrees.ensures.told (acts_of c.args.self.now) s.told).0 c.if-not-agrees.false in
     subst (λ (f : StepFault). IsCause (desk_of c.args.self.now c.args.desk) base (acts_of c.make_turn.new.self) c.args.ask.now f)
     (sym (c.in-Err.ensures.cause asks.stood.0 base s is asks.may agrees)) tt)
+
+pub returns-in-Ok-clause-summary : goal.returns-in-Ok-clause-summary
+returns-in-Ok-clause-summary c = turn_summary c.args.self.now c.make_turn.new.self c.args.desk c.args.ask.now c.make_turn.new.told c.in-Ok.ensures.made
