@@ -26,13 +26,14 @@ use page_words::{Making, decide};
 use vec_steps::{Ask, StepFault, Told};
 
 impl Core {
-    /// Does a change that a desk asks for, if the pages say that it can be done, and tells their word. The set has the pages that tell
-    /// it and those that the event touches, and may be given the next one. The position is behind all acts before. Any other ask is
-    /// told nothing.
+    /// Does a change that a desk asks for, if the pages say that it can be done, and tells their
+    /// word. The set has the pages that tell it and those that the event touches, and may be given
+    /// the next one. The position is behind all acts before. Any other ask is told nothing.
     ///
-    /// Where an event is made the ask is spent. At every other word, and at a fault, the ask is as it was, and so are the core and the
-    /// pages. Memory is wanted where the desk has no room in reserve, or a block may come; the log is full exactly where the event
-    /// that the pages let be made has no room beside what is used.
+    /// Where an event is made the ask is spent. At every other word, and at a fault, the ask is as
+    /// it was, and so are the core and the pages. Memory is wanted where the desk has no room in
+    /// reserve, or a block may come; the log is full exactly where the event that the pages let be
+    /// made has no room beside what is used.
     pub fn change<P: PageSet>(
         &mut self,
         desk: u32,

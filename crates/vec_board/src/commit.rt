@@ -86,8 +86,9 @@ impl Core {
         }
     }
 
-    /// All of an act that can be refused: makes room for it where it has none of its own, and does its lasting event to the pages of
-    /// the set. It is not made yet: `record` is to follow, which can't be refused.
+    /// All of an act that can be refused: makes room for it where it has none of its own, and does
+    /// its lasting event to the pages of the set. It is not made yet: `record` is to follow, which
+    /// can't be refused.
     pub(crate) fn prepare<P: PageSet>(
         &mut self,
         desk: u32,
