@@ -14,3 +14,5 @@ pub mod SlotsSeen
 pub mod Linked
 pub mod TriesMade
 pub mod SlotChosen
+pub mod LookedAt
+pub mod SlotMembers

@@ -11,10 +11,14 @@ use Rattle.graph_search.specs.Reads.{Answer, Look}
 use Rattle.graph_search.specs.Search.{LayerSearch}
 use Rattle.graph_search.specs.Descent.{or_from, start_at}
 use Rattle.graph_search.specs.Insert.{InsertLists, Lists, ListsDown, Newcomer, chosen, layer_part, most_in, without}
-use Rattle.vec_steps.specs.Index.{Index}
+use Rattle.vec_graph.specs.declared.graph.Graph.{Graph}
+use Rattle.vec_graph.specs.Knowing.{Knows}
+use Rattle.search_sets.specs.Standing.{spot_of}
+use Rattle.vec_steps.specs.Index.{Index, OfNodes, OfLists}
 use Rattle.vec_steps.specs.Desks.{Desk}
 use Rattle.layer_search.specs.declared.plan.Plan.{Plan}
 use Rattle.layer_search.specs.declared.found_lists.FoundLists.{FoundLists}
+use Rattle.layer_search.specs.Telling.{StandThere, StandsAt}
 use Rattle.layer_search.specs.Looking.{MadeLooks}
 
 -- how many elements each search of a layer wants: one more where one is left out of what is found
@@ -93,3 +97,17 @@ pub record FindsLists (over : Index → Type 0) (d : Desk) (old new : List Act) 
   pub reads : List (Look × Answer)
   pub made : MadeLooks over d old new before now reads
   pub found : InsertLists n reads top lists
+
+-- Each neighbour stands as it was told, and reaches its layer. In an index of lists none does.
+abbrev pub ArePicksThere : List Act → List (ℕ × Found) → Index → Type 0
+ArePicksThere acts picks (OfNodes base) = AllByRecursion (λ p. StandsAt base acts p.0 (spot_of p.1)) picks
+ArePicksThere acts picks (OfLists base) = ⊥
+
+-- so does all that was found
+pub record AreThere (acts : List Act) (lists : Lists) (base : Index) : Type 0 where
+  pub picks : ArePicksThere acts lists.picks base
+  pub near : StandThere acts 0 (map spot_of lists.near) base
+
+-- the desk knows each neighbour in its layer
+abbrev pub ArePicksKnown : Graph → List Act → ℕ → List (ℕ × Found) → Type 0
+ArePicksKnown base acts desk picks = AllByRecursion (λ p. Knows base acts desk p.1.at p.0) picks

@@ -33,13 +33,15 @@ pub enum Tried {
     Again,
 }
 
-/// All that links are made in: what steps tell, a neighbour's slots, as named and as seen, and the newcomer as an entrant.
+/// All that links are made in: what steps tell, a neighbour's slots, as named and as seen, values that are kept to be filled anew, and
+/// the newcomer as an entrant.
 #[derive(Drop)]
 pub struct LinkRoom {
     pub alloc: Global,
     pub told: Told,
     pub tids: Listed<Option<Tid>>,
     pub seen: Listed<SlotSeen>,
+    pub spare: Listed<Bits>,
     pub entrant: Found,
 }
 
@@ -61,6 +63,7 @@ impl LinkRoom {
             told,
             tids: Listed::new(alloc),
             seen: Listed::new(alloc),
+            spare: Listed::new(alloc),
             entrant,
         })
     }

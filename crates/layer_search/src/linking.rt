@@ -30,8 +30,9 @@ use vec_steps::{Ask, OpFault, Steps, Trace, Word};
 /// pgvector does, and it is asked to name the node there. Where that slot was changed meanwhile the list is read and the choice is
 /// made again, at most three times in all; a neighbour that is gone, or is not as it was read, is left out.
 ///
-/// The desk holds Update, and took the place in the layer of each neighbour for its own; `lists` are those that were found for the
-/// node, whose value `bits` is. It answers the number of links that were made. The looks that it made come to the end of `trace`.
+/// `bits` is the node's value, and `lists` are those that were found for it. Where the desk holds Update, knows the node in the layer
+/// of each neighbour, and the neighbours stand as they were told, all that it asks is allowed. It answers the number of links that
+/// were made. The looks that it made come to the end of `trace`.
 ///
 /// Its own acts are the links. Its errors are `Memory`; `LogFull` where the log has no room for a link; and `Disk`, which leaves an
 /// act. Links that were made before stand.
@@ -305,11 +306,11 @@ fn look_at_slot<S: Steps>(
 {
     let back = what.0;
     let Some(at) = what.1 else {
-        see_empty(back, owner, &mut room.seen)?;
+        see_empty(back, owner, room)?;
         return Ok(());
     };
     look_at_node(steps, at, back.layer, None, &mut room.told, trace)?;
-    see_told(back, owner, at, &room.told, &mut room.seen)?;
+    see_told(back, owner, at, room)?;
     Ok(())
 }
 

@@ -4,12 +4,17 @@ ghost use Rattle.std.specs.Prelude.{◌≡◌, ◌≤◌, ◌+◌, [], IfOk, IfE
 ghost use Rattle.vec_names.specs.Params.{IsInRange};
 ghost use Rattle.vec_names.specs.declared.params.Kind.TheVariants.{Hnsw};
 ghost use Rattle.search_sets.specs.Standing.{spot_of};
-ghost use Rattle.vec_steps.specs.Index.{Index};
+ghost use Rattle.vec_history.specs.declared.gate.Gate.TheVariants.{Update};
+ghost use Rattle.vec_history.specs.Gates.{Holds};
+ghost use Rattle.index_sizes.specs.Sizes.{slots_of_level};
+ghost use Rattle.vec_graph.specs.declared.graph.Graph.{Graph};
+ghost use Rattle.vec_graph.specs.Rules.{KnowsMembers};
+ghost use Rattle.vec_steps.specs.Index.{Index, OfNodes};
 ghost use Rattle.vec_steps.specs.Calls.{Goes};
 ghost use Rattle.layer_search.specs.Waiting.{AreApart, AreLong};
 ghost use Rattle.layer_search.specs.Telling.{OverSpots};
 ghost use Rattle.layer_search.specs.Looking.{EndedBy};
-ghost use Rattle.layer_search.specs.Listing.{ArePicksLong, FindsDown, FindsLayer, FindsLists, lists_of, newcomer_in, newcomer_of};
+ghost use Rattle.layer_search.specs.Listing.{ArePicksKnown, ArePicksLong, AreThere, FindsDown, FindsLayer, FindsLists, lists_of, newcomer_in, newcomer_of};
 
 use crate::aim::{Aim, Work};
 use crate::choosing::{add_all_slots, add_layer, add_layers_above};
@@ -30,6 +35,9 @@ use vec_steps::{OpFault, Steps, Trace};
 /// Each search wants as many elements as the index's ef. Where `except` is given, as for a node that gets its lists anew, the
 /// element at that place is no neighbour, and one more is wanted. The index is a graph.
 ///
+/// All elements that it found stand as it tells, and where the desk holds Update it knows each neighbour in its layer, as a new node
+/// asks.
+///
 /// The looks that it made come to the end of `trace`, each by its position. It makes no act of its own. Its errors are `Memory`,
 /// and `Disk` where a look met a fault of the disks, which leaves an act.
 pub fn find_lists<S: Steps>(
@@ -47,6 +55,15 @@ pub fn find_lists<S: Steps>(
     ensures ok { IfOk result (λ f. FindsLists (OverSpots (S.stands steps.old) (S.seen steps.old) 0 []) (S.desk steps.old)
         (S.seen steps.old) (S.seen steps.new) trace.old.reads trace.new.reads
         (newcomer_in (S.desk steps.old).params bits.now level except) f.top (lists_of f)) }
+    ensures there { IfOk result (λ f. (base : Index) → OverSpots (S.stands steps.old) (S.seen steps.old) 0 [] base
+        → AreThere (S.seen steps.new) (lists_of f) base) }
+    ensures known { IfOk result (λ f. (g : Graph) → OverSpots (S.stands steps.old) (S.seen steps.old) 0 [] (OfNodes g)
+        → Holds (S.seen steps.old) (S.desk steps.old).number Update
+        → ArePicksKnown g (S.seen steps.new) (S.desk steps.old).number f.picks) }
+    ensures members { IfOk result (λ f. (g : Graph) → OverSpots (S.stands steps.old) (S.seen steps.old) 0 [] (OfNodes g)
+        → Holds (S.seen steps.old) (S.desk steps.old).number Update
+        → KnowsMembers g (S.seen steps.new) (S.desk steps.old).number (S.desk steps.old).params.m level f.lists) }
+    ensures many { IfOk result (λ f. length f.lists ≡ slots_of_level (S.desk steps.old).params.m level) }
     ensures picks_long { IfOk result (λ f. ArePicksLong (S.desk steps.old).params.bits f.picks) }
     ensures near_long { IfOk result (λ f. AreLong (S.desk steps.old).params.bits f.near) }
     ensures err { IfErr result (EndedBy (OverSpots (S.stands steps.old) (S.seen steps.old) 0 []) (S.desk steps.old)

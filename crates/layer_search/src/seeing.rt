@@ -1,7 +1,7 @@
 // The slots of a neighbour, as they are seen.
 #![tactic(auto)]
 
-ghost use Rattle.std.specs.Prelude.{◌≡◌, ◌∷◌, [], OnOk, IfErr, length, None, Some, slice_get};
+ghost use Rattle.std.specs.Prelude.{◌≡◌, ◌∷◌, [], OnOk, IfOk, IfErr, length, None, Some, slice_get};
 ghost use Rattle.graph_search.specs.Insert.{held_in, most_in};
 ghost use Rattle.graph_search.specs.Reads.{AtNode};
 ghost use Rattle.graph_search.specs.Search.{has_some};
@@ -16,8 +16,9 @@ use bit_code::Bits;
 use bit_dist::{Dist, distance};
 use neighbour_pick::SlotSeen;
 use std::alloc::AllocError;
+use std::mem;
 use vec_names::{HeapId, Listed, Tid};
-use vec_steps::{OpFault, Told, Word};
+use vec_steps::{OpFault, Word};
 
 /// Takes the slots that a look at a list told, of which none is seen yet. A list with another number of slots than its layer has is
 /// of no index: it counts as want of memory.
@@ -34,24 +35,60 @@ pub fn take_slots(back: Back, room: &mut LinkRoom) -> Result<(), OpFault>
     }
     room.tids.clear();
     room.tids.extend_from_slice(room.told.tids.as_slice())?;
-    room.seen.clear();
+    keep_values(&mut room.seen, &mut room.spare)?;
     Ok(())
 }
 
+// Takes all slots out, and keeps their values.
+fn keep_values(seen: &mut Listed<SlotSeen>, spare: &mut Listed<Bits>) -> Result<(), AllocError>
+    ensures { OnOk result (seen.new ≡ []) }
+{
+    'slots: while let Some(slot) = seen.pop() {
+        let SlotSeen {
+            at: _,
+            live: _,
+            dist: _,
+            bits,
+        } = slot;
+        spare.push(bits)?;
+    }
+    Ok(())
+}
+
+// A value as long as this one: one that was kept, if there is one.
+fn spare_value(like: &Bits, spare: &mut Listed<Bits>) -> Result<Bits, AllocError>
+    ensures { IfOk result (λ bits. length bits ≡ length like.now) }
+{
+    if let Some(bits) = spare.pop() {
+        if bits.count() == like.count() {
+            return Ok(bits);
+        }
+    }
+    like.copied()
+}
+
 /// Puts a slot without a member last.
-pub fn see_empty(back: Back, owner: &Bits, seen: &mut Listed<SlotSeen>) -> Result<(), AllocError>
-    ensures { OnOk result (SeesSlot back.ops owner.now back.layer None [] seen.old seen.new) }
+pub fn see_empty(back: Back, owner: &Bits, room: &mut LinkRoom) -> Result<(), AllocError>
+    ensures seen { OnOk result (SeesSlot back.ops owner.now back.layer None [] room.old.seen room.new.seen) }
+    ensures told { room.new.told ≡ room.old.told }
+    ensures tids { room.new.tids ≡ room.old.tids }
+    ensures entrant { room.new.entrant ≡ room.old.entrant }
 {
     let _ = back;
-    see_without(None, owner, seen)?;
+    see_without(None, owner, &mut room.seen, &mut room.spare)?;
     Ok(())
 }
 
 // Puts a slot last whose value and distance say nothing.
-fn see_without(at: Option<Tid>, owner: &Bits, seen: &mut Listed<SlotSeen>) -> Result<(), AllocError>
+fn see_without(
+    at: Option<Tid>,
+    owner: &Bits,
+    seen: &mut Listed<SlotSeen>,
+    spare: &mut Listed<Bits>,
+) -> Result<(), AllocError>
     ensures { OnOk result (SeesWithout at (length owner.now) seen.old seen.new) }
 {
-    let bits = owner.copied()?;
+    let bits = spare_value(owner, spare)?;
     seen.push(SlotSeen {
         at,
         live: false,
@@ -61,46 +98,42 @@ fn see_without(at: Option<Tid>, owner: &Bits, seen: &mut Listed<SlotSeen>) -> Re
     Ok(())
 }
 
-/// Puts a slot last whose member a look told, by its distance to the list's owner.
-pub fn see_told(
-    back: Back,
-    owner: &Bits,
-    at: Tid,
-    told: &Told,
-    seen: &mut Listed<SlotSeen>,
-) -> Result<(), AllocError>
-    requires { length owner.now ≡ length told.now.bits }
-    ensures { OnOk result (SeesSlot back.ops owner.now back.layer (Some at)
-        ((AtNode at back.layer None, node_told told.now.word told.now.list_at told.now) ∷ []) seen.old seen.new) }
+/// Puts a slot last whose member a look told, by its distance to the list's owner. The value is taken, and another as long is left.
+pub fn see_told(back: Back, owner: &Bits, at: Tid, room: &mut LinkRoom) -> Result<(), AllocError>
+    requires { length owner.now ≡ length room.old.told.bits }
+    ensures seen { OnOk result (SeesSlot back.ops owner.now back.layer (Some at)
+        ((AtNode at back.layer None, node_told room.old.told.word room.old.told.list_at room.old.told) ∷ [])
+        room.old.seen room.new.seen) }
+    ensures told { length room.new.told.bits ≡ length room.old.told.bits }
+    ensures tids { room.new.tids ≡ room.old.tids }
+    ensures entrant { room.new.entrant ≡ room.old.entrant }
 {
-    let Word::Node = told.word else {
-        see_without(Some(at), owner, seen)?;
+    let Word::Node = room.told.word else {
+        see_without(Some(at), owner, &mut room.seen, &mut room.spare)?;
         return Ok(());
     };
-    let Some(_list_at) = told.list_at else {
-        see_without(Some(at), owner, seen)?;
+    let Some(_list_at) = room.told.list_at else {
+        see_without(Some(at), owner, &mut room.seen, &mut room.spare)?;
         return Ok(());
     };
-    see_member(back, owner, at, told, seen)?;
+    see_member(back, owner, at, room)?;
     Ok(())
 }
 
 // Puts a slot last whose member stands.
-fn see_member(
-    back: Back,
-    owner: &Bits,
-    at: Tid,
-    told: &Told,
-    seen: &mut Listed<SlotSeen>,
-) -> Result<(), AllocError>
-    requires { length owner.now ≡ length told.now.bits }
-    ensures { OnOk result (SeesMember back.ops owner.now at told.now seen.old seen.new) }
+fn see_member(back: Back, owner: &Bits, at: Tid, room: &mut LinkRoom) -> Result<(), AllocError>
+    requires { length owner.now ≡ length room.old.told.bits }
+    ensures seen { OnOk result (SeesMember back.ops owner.now at room.old.told room.old.seen room.new.seen) }
+    ensures told { length room.new.told.bits ≡ length room.old.told.bits }
+    ensures tids { room.new.tids ≡ room.old.tids }
+    ensures entrant { room.new.entrant ≡ room.old.entrant }
 {
-    let dist = distance(back.ops, owner, &told.bits);
-    let bits = told.bits.copied()?;
-    seen.push(SlotSeen {
+    let dist = distance(back.ops, owner, &room.told.bits);
+    let other = spare_value(&room.told.bits, &mut room.spare)?;
+    let bits = mem::replace(&mut room.told.bits, other);
+    room.seen.push(SlotSeen {
         at: Some(at),
-        live: has_row(&told.ids),
+        live: has_row(&room.told.ids),
         dist,
         bits,
     })?;

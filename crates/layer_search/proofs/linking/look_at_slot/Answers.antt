@@ -1,4 +1,4 @@
-use Rattle.std.proofs.Common.{◌∷◌, [], Option, None, sym, subst}
+use Rattle.std.proofs.Common.{◌∙◌, ◌∷◌, [], Option, None, sym, subst}
 use Rattle.vec_names.specs.declared.tid.Tid.{Tid}
 use Rattle.graph_search.specs.Reads.{AtNode}
 use Rattle.vec_steps.specs.Telling.{node_told}
@@ -13,8 +13,8 @@ pub returns-in_default-clause-ok : goal.returns-in_default-clause-ok
 returns-in_default-clause-ok g c = record {
   reads = [];
   made = looks_none (g.S.Steps.seen c.args.steps.now) c.args.trace.now.reads;
-  sees = subst (λ (s : Option Tid). SeesSlot c.args.what.0.ops c.args.owner.now c.args.what.0.layer s [] c.args.room.now.seen c.see_empty.new.seen)
-      (sym c.in_default.is) c.in_ok-see_empty.ensures;
+  sees = subst (λ (s : Option Tid). SeesSlot c.args.what.0.ops c.args.owner.now c.args.what.0.layer s [] c.args.room.now.seen c.see_empty.new.room.seen)
+      (sym c.in_default.is) c.in_ok-see_empty.ensures.seen;
 }
 
 pub returns-in_err-see_told-clause-err : goal.returns-in_err-see_told-clause-err
@@ -28,6 +28,12 @@ returns-clause-ok g c =
     record {
       reads = reads;
       made = c.in_ok-look_at_node.ensures.ok;
-      sees = subst (λ (s : Option Tid). SeesSlot c.args.what.0.ops c.args.owner.now c.args.what.0.layer s reads c.args.room.now.seen c.see_told.new.seen)
-          (sym c.in-Some.is) c.in_ok-see_told.ensures;
+      sees = subst (λ (s : Option Tid). SeesSlot c.args.what.0.ops c.args.owner.now c.args.what.0.layer s reads c.args.room.now.seen c.see_told.new.room.seen)
+          (sym c.in-Some.is) c.in_ok-see_told.ensures.seen;
     }
+
+pub returns-in_err-see_told-clause-told : goal.returns-in_err-see_told-clause-told
+returns-in_err-see_told-clause-told g c = c.in_err-see_told.ensures.told ∙ c.in_ok-look_at_node.ensures.bits
+
+pub returns-clause-told : goal.returns-clause-told
+returns-clause-told g c = c.in_ok-see_told.ensures.told ∙ c.in_ok-look_at_node.ensures.bits
