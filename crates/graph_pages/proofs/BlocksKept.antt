@@ -7,7 +7,7 @@ use Rattle.vec_history.specs.declared.event.Event.{Event}
 use Rattle.vec_history.specs.declared.event.Event.TheVariants.{Put, Join, Link, Relist, Drop, Mark, Entry, Hint, IvfAdd, IvfGrow, IvfDrop, IvfHint, Gate, Ungate, Phase, VacuumEnd, Cancel, Settled, DiskFaulted}
 use Rattle.page_bytes.specs.Content.{Content}
 use Rattle.vec_graph.specs.declared.graph.Graph.{Graph}
-use Rattle.graph_pages.specs.Growing.{fresh_page, new_kind, blocks_after, extended, AreAllRedone}
+use Rattle.page_redo.specs.Growing.{fresh_page, new_kind, blocks_after, extended, AreAllRedone}
 use Rattle.graph_pages.specs.Following.{Follows}
 
 module _ (pages : List Content) (g : Graph) (few : length pages ≤ MOST_BLOCKS) where

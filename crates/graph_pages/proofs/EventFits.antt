@@ -17,8 +17,9 @@ use Rattle.vec_graph.specs.Rules.{IsThere}
 use Rattle.page_redo.specs.PageTuples.{is_graph}
 use Rattle.page_redo.specs.PageChanges.{is_current, joined, dropped, linked, relisted, entered, hinted}
 use Rattle.graph_pages.specs.Standing.{node_with as made_of, Stands}
-use Rattle.graph_pages.specs.Fitting.{FitsEach}
-use Rattle.graph_pages.proofs.RoleFits.{each_of_one, meta_role_fits, of_graph_kind, head_role_fits, links_role_fits}
+use Rattle.page_redo.specs.Fitting.{FitsEach}
+use Rattle.page_redo.proofs.OneFits.{each_of_one}
+use Rattle.graph_pages.proofs.RoleFits.{meta_role_fits, of_graph_kind, head_role_fits, links_role_fits}
 
 pub current : (deleted : Bool) (found version : ℕ) → deleted ≡ false → found ≡ version → is_current deleted found version ≡ true
 current deleted found version new same = rw (new, eq-eqb found version same) refl

@@ -22,7 +22,7 @@ use Rattle.page_redo.specs.PageTuples.{in_whole}
 use Rattle.graph_pages.specs.Standing.{item_in, element_in, links_in, head_in, is_of_level, is_entry, is_slot_below, is_place, node_with as made_of, Stands}
 use Rattle.graph_pages.specs.Following.{AreBelow, HasList, AreNextBlocks, AreNewPlaces, Follows}
 use Rattle.graph_pages.specs.FollowTests.{names_list, is_nothing, are_next, are_new, may_put}
-use Rattle.graph_pages.proofs.Given.{then_is, map_is}
+use Rattle.page_redo.proofs.Given.{then_is, map_is}
 use Rattle.graph_pages.proofs.KindsApart.{meta_is_no_element, element_is_no_list}
 use Rattle.graph_pages.proofs.PlaceTests.{same_if_place, place_itself}
 use Rattle.graph_pages.proofs.StandingLaws.{node_pages}

@@ -25,12 +25,12 @@ use Rattle.page_redo.proofs.MetaChanges.{entry_of_graph, hint_of_graph}
 use Rattle.page_redo.proofs.Putting.{with_item_here}
 use Rattle.graph_pages.specs.Standing.{Stands}
 use Rattle.graph_pages.specs.Effects.{format_in}
-use Rattle.graph_pages.specs.Growing.{extended, blocks_after, fresh_page, new_kind, AreAllRedone}
-use Rattle.graph_pages.proofs.Given.{then_is, map_is, if_is, when_is}
+use Rattle.page_redo.specs.Growing.{extended, blocks_after, fresh_page, new_kind, AreAllRedone}
+use Rattle.page_redo.proofs.Given.{then_is, map_is, if_is, when_is}
 use Rattle.graph_pages.proofs.StandingLaws.{IsRootOf, root_is, root_fits}
 use Rattle.graph_pages.proofs.TwoItems.{none_or_some}
-use Rattle.graph_pages.proofs.FreshPages.{get_front}
-use Rattle.graph_pages.proofs.RedoneOnce.{is_in}
+use Rattle.page_redo.proofs.FreshBehind.{get_front}
+use Rattle.page_redo.proofs.RedoneOnce.{is_in}
 
 -- ---- roles that give nothing
 

@@ -1,5 +1,5 @@
 -- Pages with fresh ones behind them stand for the same graph, of more blocks.
-use Rattle.std.proofs.Common.{◌≡◌, inl, inr, ℕ, zero, suc, ◌+◌, ◌<◌, ◌≤◌, Bool, true, false, ◌||◌, ◌==◌, List, [], ◌∷◌, ◌++◌, length, replicate, Option, Some, None, refl, sym, ap, ◌∙◌, arith}
+use Rattle.std.proofs.Common.{◌≡◌, inl, inr, ℕ, zero, suc, ◌+◌, ◌≤◌, Bool, true, false, ◌||◌, ◌==◌, List, [], ◌∷◌, ◌++◌, length, replicate, Option, Some, None, refl, sym, ap, ◌∙◌, arith}
 use Rattle.std.specs.Prelude.{slice_get, flat_map, nat_le}
 use Rattle.std.specs.List.{list_all}
 use Rattle.std.specs.Option.{option_map, option_and_then}
@@ -8,7 +8,6 @@ use Rattle.std.proofs.lemmas.List.{length-append, length-replicate, append-nil}
 use Rattle.std.proofs.lemmas.Grind.{flat_map-append}
 use Rattle.std.proofs.lemmas.Option.{slice_get_within, slice_get_past}
 use Rattle.byte_fields.specs.Reading.{Reader}
-use Rattle.byte_fields.proofs.EachField.{some_is}
 use Rattle.vec_names.specs.declared.tid.Tid.{Tid}
 use Rattle.vec_names.specs.declared.params.Params.{Params}
 use Rattle.page_bytes.specs.declared.kind.PageKind.TheVariants.{Hnsw}
@@ -20,26 +19,10 @@ use Rattle.vec_tuples.specs.Reading.{element, links}
 use Rattle.vec_graph.specs.declared.graph.Graph.{Graph}
 use Rattle.page_redo.specs.PageTuples.{in_whole, is_graph_page}
 use Rattle.graph_pages.specs.Standing.{item_in, read_in, element_in, head_in, links_in, root_on, root, is_of_level, is_entry, is_root, is_element, pointers_on, pointers, times_in, is_slot_below, is_list, is_node_item, IsNodePage, node_with as made_of, node_in, Stands}
-use Rattle.graph_pages.specs.Growing.{fresh_page}
+use Rattle.page_redo.specs.Growing.{fresh_page}
 use Rattle.graph_pages.proofs.OneItem.{same_element, same_entry}
 use Rattle.graph_pages.proofs.StandingLaws.{root_is, root_holds, node_pages, stands_from}
-
--- ---- lists with more behind them
-
-pub get_front : {X : Type 0} (xs ys : List X) (i : ℕ) → i < length xs → slice_get (xs ++ ys) i ≡ slice_get xs i
-get_front [] ys i h = absurd (omega arith)
-get_front (x ∷ xs) ys zero h = refl
-get_front (x ∷ xs) ys (suc i) h = get_front xs ys i (omega arith)
-
-get_copy : {X : Type 0} (v : X) (n i : ℕ) (x : X) → slice_get (replicate n v) i ≡ Some x → x ≡ v
-get_copy v zero i x is = absurd cc
-get_copy v (suc n) zero x is = sym (some_is v x is)
-get_copy v (suc n) (suc i) x is = get_copy v n i x is
-
-pub get_behind : {X : Type 0} (xs : List X) (v : X) (n i : ℕ) (x : X) → length xs ≤ i → slice_get (xs ++ replicate n v) i ≡ Some x → x ≡ v
-get_behind [] v n i x h is = get_copy v n i x is
-get_behind (y ∷ ys) v n zero x h is = absurd (omega arith)
-get_behind (y ∷ ys) v n (suc i) x h is = get_behind ys v n i x (omega arith) is
+use Rattle.page_redo.proofs.FreshBehind.{get_front, get_behind}
 
 all_copies : {X A : Type 0} (f : X → List A) (v : X) (n : ℕ) → f v ≡ [] → flat_map f (replicate n v) ≡ []
 all_copies f v zero none = refl

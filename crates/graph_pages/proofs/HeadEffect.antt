@@ -23,7 +23,7 @@ use Rattle.page_redo.specs.PageTuples.{in_whole, with_item, with_head, head_chan
 use Rattle.page_redo.specs.PageChanges.{PageChange, on_graph, is_current, joined, dropped}
 use Rattle.page_redo.specs.Redo.{at_one, numbered}
 use Rattle.graph_pages.specs.Standing.{node_with as made_of, Stands}
-use Rattle.graph_pages.proofs.Given.{then_is, map_is, if_is, when_is, item_bytes}
+use Rattle.page_redo.proofs.Given.{then_is, map_is, if_is, when_is, item_bytes}
 use Rattle.page_redo.proofs.ItemLaws.{whole_spelled, whole_read}
 use Rattle.page_redo.proofs.Pairs.{no_list}
 use Rattle.graph_pages.proofs.PageSets.{changed_at}

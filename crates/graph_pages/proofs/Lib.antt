@@ -6,7 +6,6 @@ pub mod PagePlaces
 pub mod FillingLaws
 pub mod SameGraph
 pub mod Broken
-pub mod Given
 pub mod PageSets
 pub mod Pointed
 pub mod KindsApart
@@ -23,7 +22,6 @@ pub mod RoleFits
 pub mod EventFits
 pub mod StandingShape
 pub mod FreshPages
-pub mod RedoneOnce
 pub mod MarkFits
 pub mod OneBlock
 pub mod PutOldEffect
@@ -37,7 +35,6 @@ pub mod FormatKept
 pub mod RedoEffect
 pub mod PutFreshFits
 pub mod BlocksKept
-pub mod SpelledBytes
 pub mod PagesKept
 pub mod PagesAfter
 pub mod EntrySums
@@ -46,5 +43,3 @@ pub mod PageShape
 pub mod OtherFormat
 pub mod FollowLaws
 pub mod ReusedPlace
-pub mod RedoneThere
-pub mod ReplayedOnce

@@ -19,7 +19,7 @@ use Rattle.vec_graph.specs.Graph.{node_at}
 use Rattle.vec_graph.specs.Effect.{with_node, changed_from, changed}
 use Rattle.page_redo.specs.PageTuples.{in_whole}
 use Rattle.graph_pages.specs.Standing.{item_in, element_in, head_in, links_in, is_of_level, is_list_of, is_element, pointer_of, pointers, times_in, is_slot_below, is_list, is_node_item, IsNodePage, node_with as made_of, node_in, Stands}
-use Rattle.graph_pages.proofs.Given.{then_is, map_is}
+use Rattle.page_redo.proofs.Given.{then_is, map_is}
 use Rattle.graph_pages.proofs.PlaceTests.{place_itself}
 use Rattle.graph_pages.proofs.PageSets.{IsChangedAt, by_place, get_here, get_apart, read_now, read_was, read_apart, read_alike}
 use Rattle.graph_pages.proofs.Pointed.{named_once}

@@ -23,12 +23,13 @@ use Rattle.page_redo.specs.PageChanges.{PageChange, on_graph, marked, emptied}
 use Rattle.page_redo.specs.Redo.{at_two, numbered}
 use Rattle.page_redo.proofs.Pairs.{mark_pair}
 use Rattle.graph_pages.specs.Standing.{links_in, Stands}
-use Rattle.graph_pages.specs.Growing.{fresh_page}
-use Rattle.graph_pages.specs.Fitting.{FitsEach}
-use Rattle.graph_pages.proofs.Given.{then_is}
+use Rattle.page_redo.specs.Growing.{fresh_page}
+use Rattle.page_redo.specs.Fitting.{FitsEach}
+use Rattle.page_redo.proofs.Given.{then_is}
 use Rattle.graph_pages.proofs.KindsApart.{meta_is_no_element, meta_is_no_list, element_is_no_list}
 use Rattle.graph_pages.proofs.EventFits.{current}
-use Rattle.graph_pages.proofs.RoleFits.{of_graph_kind, no_more, tuple_there, node_there, list_alike}
+use Rattle.graph_pages.proofs.RoleFits.{of_graph_kind, tuple_there, node_there, list_alike}
+use Rattle.page_redo.proofs.OneFits.{no_more}
 
 -- ---- an event with two places, on one block or on two
 

@@ -22,7 +22,7 @@ use Rattle.page_redo.specs.PageChanges.{on_meta, entered, hinted}
 use Rattle.page_redo.specs.Redo.{at_one, numbered}
 use Rattle.graph_pages.specs.Standing.{item_in, element_in, head_in, links_in, root_on, root, of_graph, is_of_level, is_entry, is_element, pointers, is_list, is_node_item, node_with as made_of, node_in, Stands}
 use Rattle.byte_fields.proofs.EachField.{some_is}
-use Rattle.graph_pages.proofs.Given.{then_is, map_is, if_is, when_is, item_bytes}
+use Rattle.page_redo.proofs.Given.{then_is, map_is, if_is, when_is, item_bytes}
 use Rattle.page_redo.proofs.ItemLaws.{whole_spelled, whole_read}
 use Rattle.page_redo.proofs.MetaChanges.{entry_of_graph, hint_of_graph}
 use Rattle.graph_pages.proofs.KindsApart.{meta_is_no_element, meta_is_no_list}

@@ -12,10 +12,11 @@ use Rattle.page_redo.specs.Redo.{touched, redone}
 use Rattle.page_redo.proofs.Others.{set_apart}
 use Rattle.page_redo.proofs.Putting.{set_here}
 use Rattle.graph_pages.specs.Standing.{Stands}
-use Rattle.graph_pages.specs.Effects.{RedoIsEffect, AreRedone}
-use Rattle.graph_pages.specs.Growing.{fresh_page}
-use Rattle.graph_pages.proofs.RedoneOnce.{same_all}
-use Rattle.graph_pages.proofs.RoleFits.{only}
+use Rattle.graph_pages.specs.Effects.{RedoIsEffect}
+use Rattle.page_redo.specs.Growing.{AreRedone}
+use Rattle.page_redo.specs.Growing.{fresh_page}
+use Rattle.page_redo.proofs.RedoneOnce.{same_all}
+use Rattle.page_redo.proofs.OneFits.{only}
 
 module _ (pages after : List Content) (g : Graph) (event : Event) (wrap number a : ℕ) (touches : touched event g.params ≡ a ∷ []) (within : a < length pages)
     (f : AreRedone g.params wrap number event pages after) where

@@ -19,11 +19,11 @@ use Rattle.page_redo.proofs.Lengths.{meta_long}
 use Rattle.page_redo.proofs.Putting.{set_here, with_item_here}
 use Rattle.graph_pages.specs.Standing.{Stands}
 use Rattle.graph_pages.specs.Effects.{format_in, with_format}
-use Rattle.graph_pages.proofs.Given.{then_is, got_from_all}
+use Rattle.page_redo.proofs.Given.{then_is, got_from_all}
 use Rattle.graph_pages.proofs.StandingLaws.{root_is, root_spelled}
 use Rattle.graph_pages.proofs.MetaEffect.{meta_effect, root_parts, meta_fits, meta_there}
-use Rattle.graph_pages.proofs.PagesKept.{page_set, with_number}
-use Rattle.graph_pages.proofs.SpelledBytes.{meta_all}
+use Rattle.page_redo.proofs.KeptPages.{page_set, with_number}
+use Rattle.page_redo.proofs.SpelledBytes.{meta_all}
 
 module _ (pages : List Content) (g : Graph) (page : Content) (m : Meta) (format number : ℕ) (all : All IsPage pages) (s : Stands pages g)
     (there : slice_get pages 0 ≡ Some page) (read : meta_at page ≡ Some m) (low : 1 ≤ format) (high : format ≤ 2) where

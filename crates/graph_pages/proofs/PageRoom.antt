@@ -31,7 +31,7 @@ use Rattle.page_redo.specs.PageTuples.{in_whole}
 use Rattle.page_redo.proofs.ItemLaws.{whole_spelled}
 use Rattle.page_redo.proofs.Lengths.{length-element_bytes}
 use Rattle.graph_pages.specs.Standing.{item_in, element_in, links_in, head_in, is_list_of, is_element, is_list, is_slot_below, pointer_of, pointers_on, pointers, times_in, node_with as made_of, Stands}
-use Rattle.graph_pages.proofs.Given.{then_is, item_bytes, got_from_all}
+use Rattle.page_redo.proofs.Given.{then_is, item_bytes, got_from_all}
 use Rattle.graph_pages.proofs.KindsApart.{element_is_no_list}
 use Rattle.graph_pages.proofs.PagePlaces.{item_on, item_within}
 use Rattle.graph_pages.proofs.Pointed.{times_both, named_once}

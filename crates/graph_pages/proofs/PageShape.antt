@@ -29,7 +29,7 @@ use Rattle.vec_graph.specs.Shaped.{IsShaped, IsShapedNode}
 use Rattle.page_redo.specs.PageTuples.{in_whole, is_graph}
 use Rattle.page_redo.proofs.ItemLaws.{whole_spelled}
 use Rattle.graph_pages.specs.Standing.{item_in, element_in, links_in, head_in, is_of_level, is_entry, is_list_of, node_with as made_of, Stands}
-use Rattle.graph_pages.proofs.Given.{then_is, map_is, item_bytes}
+use Rattle.page_redo.proofs.Given.{then_is, map_is, item_bytes}
 use Rattle.graph_pages.proofs.KindsApart.{meta_is_no_element, meta_is_no_list, element_is_no_list}
 use Rattle.graph_pages.proofs.StandingLaws.{root_is, root_fits, root_holds, node_pages, node_below}
 use Rattle.graph_pages.proofs.StandingShape.{list_below, all_slots}

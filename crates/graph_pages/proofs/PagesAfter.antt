@@ -31,19 +31,20 @@ use Rattle.page_redo.proofs.Putting.{with_item_others}
 use Rattle.page_redo.proofs.Pairs.{put_not_same}
 use Rattle.graph_pages.specs.Standing.{links_in, item_in, Stands}
 use Rattle.graph_pages.specs.Effects.{format_in}
-use Rattle.graph_pages.specs.Growing.{fresh_page, new_kind, blocks_after, extended, AreAllRedone}
+use Rattle.page_redo.specs.Growing.{fresh_page, new_kind, blocks_after, extended, AreAllRedone}
 use Rattle.graph_pages.specs.Following.{HasList, Follows}
-use Rattle.graph_pages.proofs.Given.{then_is, map_is, if_is, when_is, item_bytes, got_from_all}
+use Rattle.page_redo.proofs.Given.{then_is, map_is, if_is, when_is, item_bytes, got_from_all}
 use Rattle.graph_pages.proofs.StandingLaws.{root_is}
 use Rattle.graph_pages.proofs.HeadEffect.{params_in_range}
 use Rattle.graph_pages.proofs.RoleFits.{node_there, of_graph_kind}
-use Rattle.graph_pages.proofs.RedoneOnce.{is_in}
-use Rattle.graph_pages.proofs.FreshPages.{get_front}
+use Rattle.page_redo.proofs.RedoneOnce.{is_in}
+use Rattle.page_redo.proofs.FreshBehind.{get_front}
 use Rattle.graph_pages.proofs.TwoItems.{none_or_some}
-use Rattle.graph_pages.proofs.MarkEffect.{is_first, is_second, two_same, two_first, two_second}
+use Rattle.page_redo.proofs.TwoBlocks.{is_first, is_second, two_same, two_first, two_second}
 use Rattle.graph_pages.proofs.PutOldEffect.{element_put, list_put, times_cancels, some_m}
 use Rattle.graph_pages.proofs.FormatKept.{format_kept}
-use Rattle.graph_pages.proofs.PagesKept.{with_number, fresh_has_bytes, AreSmall, keeps_page}
+use Rattle.page_redo.proofs.KeptPages.{with_number, fresh_has_bytes}
+use Rattle.graph_pages.proofs.PagesKept.{AreSmall, keeps_page}
 
 -- ---- what redo made of one page
 

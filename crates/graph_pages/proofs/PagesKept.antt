@@ -1,22 +1,18 @@
 -- Redo of an event that follows leaves pages that have bytes, and gives each page that it touches its number.
-use Rattle.std.proofs.Common.{◌≡◌, ℕ, zero, suc, ◌+◌, ◌-◌, ◌*◌, ◌/◌, ◌^◌, ◌<◌, ◌≤◌, ◌&&◌, ◌==◌, eqb, Bool, true, false, List, [], ◌∷◌, ◌++◌, length, get_or, Option, Some, None, refl, sym, ap, subst, ◌∙◌, arith, inl, inr}
-use Rattle.std.specs.Prelude.{slice_get, slice_set, nat_le, ⊤}
+use Rattle.std.proofs.Common.{◌≡◌, ℕ, ◌+◌, ◌*◌, ◌/◌, ◌<◌, ◌≤◌, ◌&&◌, ◌==◌, eqb, Bool, true, false, List, [], ◌∷◌, length, get_or, Option, Some, None, refl, sym, ap, subst, ◌∙◌, arith, inl, inr}
+use Rattle.std.specs.Prelude.{⊤}
 use Rattle.std.specs.Option.{option_map}
-use Rattle.std.proofs.lemmas.Bool.{and_parts, eqb-true, eq-eqb, ne_eqb, leb-true, cases_eq}
-use Rattle.std.proofs.lemmas.List.{length-append, length-set, length-replicate}
-use Rattle.std.proofs.lemmas.List.Elements.{All-set, All-push, All-cons, All-nil}
+use Rattle.std.proofs.lemmas.Bool.{and_parts, eqb-true, eq-eqb, ne_eqb, cases_eq}
+use Rattle.std.proofs.lemmas.List.{length-set, length-replicate}
+use Rattle.std.proofs.lemmas.List.Elements.{All-cons, All-nil}
 use Rattle.index_sizes.specs.Sizes.{next_version}
-use Rattle.byte_fields.proofs.EachField.{some_is}
 use Rattle.vec_names.specs.declared.tid.Tid.{Tid}
 use Rattle.vec_names.specs.declared.heap_id.HeapId.{HeapId}
 use Rattle.vec_names.specs.declared.params.Params.{Params}
 use Rattle.vec_names.specs.Params.{IsInRange}
 use Rattle.vec_history.specs.declared.event.Event.{Event}
 use Rattle.vec_history.specs.declared.event.Event.TheVariants.{Put, Join, Link, Relist, Drop, Mark, Entry, Hint, IvfAdd, IvfGrow, IvfDrop, IvfHint, Gate, Ungate, Phase, VacuumEnd, Cancel, Settled, DiskFaulted}
-use Rattle.page_bytes.specs.declared.kind.PageKind.{PageKind}
-use Rattle.page_bytes.specs.Content.{Content, IsPage, IsItem, item_at, round8, taken, free_of}
-use Rattle.page_bytes.proofs.Placing.{taken-nil, taken-cons, taken-append}
-use Rattle.page_bytes.proofs.Changes.{taken-one}
+use Rattle.page_bytes.specs.Content.{Content, IsPage, IsItem, item_at}
 use Rattle.vec_tuples.specs.declared.meta.Meta.{Meta}
 use Rattle.vec_tuples.specs.declared.element.ElementHead.{ElementHead}
 use Rattle.vec_tuples.specs.declared.links.Links.{Links}
@@ -28,55 +24,14 @@ use Rattle.vec_tuples.proofs.LinksLaws.{links_field}
 use Rattle.vec_tuples.proofs.SlotPlaces.{length-links_bytes}
 use Rattle.page_redo.specs.PageTuples.{in_whole, element_at, links_at, meta_at, with_item, with_head, added, head_changed, links_changed, meta_changed, is_graph, is_graph_page, is_meta_page}
 use Rattle.page_redo.specs.PageChanges.{PageChange, NewNode, new_node, new_element, new_links, is_current, is_node, is_old_element, are_old_links, if_so, on_graph, on_meta, joined, dropped, marked, linked, relisted, emptied, put_over, put, put_element, put_links, entered, hinted}
-use Rattle.page_redo.specs.Redo.{at_one, at_two, changed, numbered}
+use Rattle.page_redo.specs.Redo.{at_one, at_two, changed}
 use Rattle.page_redo.proofs.ItemLaws.{whole_spelled}
 use Rattle.page_redo.proofs.Lengths.{length-element_bytes, element_long, meta_long}
-use Rattle.graph_pages.specs.Growing.{fresh_page}
-use Rattle.graph_pages.proofs.Given.{then_is, map_is, if_is, when_is, item_bytes}
+use Rattle.page_redo.proofs.Given.{then_is, map_is, if_is, when_is, item_bytes}
 use Rattle.graph_pages.proofs.TwoItems.{none_or_some}
-use Rattle.graph_pages.proofs.MarkEffect.{two_same, two_first, two_second}
-use Rattle.graph_pages.proofs.SpelledBytes.{element_all, links_all, meta_all}
-
--- ---- a page with another item, or one more
-
-taken_set : (items : List (List ℕ)) (i : ℕ) (old x : List ℕ) → slice_get items i ≡ Some old → length old ≡ length x → taken (slice_set items i x) ≡ taken items
-taken_set [] i old x is long = absurd cc
-taken_set (y ∷ ys) zero old x is long =
-    let same : length x ≡ length y = sym long ∙ ap (λ (l : List ℕ). length l) (sym (some_is y old is)) in
-    taken-cons x ys ∙ ap (λ n. round8 n + taken ys) same ∙ sym (taken-cons y ys)
-taken_set (y ∷ ys) (suc i) old x is long =
-    taken-cons y (slice_set ys i x) ∙ ap (λ n. round8 (length y) + n) (taken_set ys i old x is long) ∙ sym (taken-cons y ys)
-
-place_of : (items : List (List ℕ)) (off : ℕ) (old : List ℕ) → item_at items off ≡ Some old → slice_get items (off - 1) ≡ Some old
-place_of items zero old is = absurd cc
-place_of items (suc i) old is = ap (slice_get items) (let back : suc i - 1 ≡ i = omega arith in back) ∙ is
-
-pub page_set : (c : Content) (off : ℕ) (old x : List ℕ) → IsPage c → item_at c.items off ≡ Some old → length old ≡ length x → IsItem x
-    → IsPage (with_item c off x)
-page_set c off old x page is long item = record {
-  next = page.next;
-  number = page.number;
-  items = All-set IsItem c.items (off - 1) x item page.items;
-  room = omega (arith, page.room, taken_set c.items (off - 1) old x (place_of c.items off old is) long, length-set c.items (off - 1) x);
-}
-
-pub page_more : (c d : Content) (x : List ℕ) → IsPage c → IsItem x → added x c ≡ Some d → IsPage d
-page_more c d x page item is =
-    let d_is = when_is (nat_le (round8 (length x) + 4) (free_of c)) (record c { items = c.items ++ x ∷ [] }) d is in
-    let fits : round8 (length x) + 4 ≤ 8184 - taken c.items - (24 + 4 * length c.items) = leb-true (round8 (length x) + 4) (free_of c) d_is.0 in
-    let more : IsPage (record c { items = c.items ++ x ∷ [] }) = record {
-      next = page.next;
-      number = page.number;
-      items = All-push IsItem c.items x page.items item;
-      room = omega (arith, page.room, fits, taken-append c.items (x ∷ []), taken-one x, length-append c.items (x ∷ []));
-    } in
-    subst IsPage d_is.1 more
-
-pub with_number : (number : ℕ) (c : Content) → number < 2 ^ 64 → IsPage c → IsPage (numbered number c)
-with_number number c low page = record { next = page.next; number = low; items = page.items; room = page.room }
-
-pub fresh_has_bytes : (kind : PageKind) → IsPage (fresh_page kind)
-fresh_has_bytes kind = record { next = tt; number = omega arith; items = All-nil IsItem; room = omega (arith, taken-nil) }
+use Rattle.page_redo.proofs.TwoBlocks.{two_same, two_first, two_second}
+use Rattle.page_redo.proofs.SpelledBytes.{element_all, links_all, meta_all}
+use Rattle.page_redo.proofs.KeptPages.{page_set, page_more}
 
 -- ---- changes that keep a page
 

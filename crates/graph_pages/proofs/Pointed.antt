@@ -9,7 +9,7 @@ use Rattle.vec_names.specs.declared.params.Params.{Params}
 use Rattle.vec_names.specs.Places.{same_tid}
 use Rattle.page_bytes.specs.Content.{Content, item_at}
 use Rattle.graph_pages.specs.Standing.{item_in, pointer_of, pointers_on, pointers, is_place, times_in}
-use Rattle.graph_pages.proofs.Given.{then_is}
+use Rattle.page_redo.proofs.Given.{then_is}
 
 pub times_both : (at : Tid) (xs ys : List Tid) → times_in at (xs ++ ys) ≡ times_in at xs + times_in at ys
 times_both at xs ys = sum_by-append (λ t. cond (is_place at t) 1 0) xs ys

@@ -18,11 +18,13 @@ use Rattle.vec_graph.specs.declared.graph.Graph.{Graph}
 use Rattle.vec_graph.specs.Places.{one_if, element_need, list_need, fits_one_page, fresh_place, fresh_at, new_place}
 use Rattle.page_redo.specs.PageChanges.{new_node}
 use Rattle.graph_pages.specs.Standing.{Stands}
-use Rattle.graph_pages.specs.Growing.{fresh_page}
-use Rattle.graph_pages.specs.Fitting.{FitsEach, IsNextPlace}
+use Rattle.page_redo.specs.Growing.{fresh_page}
+use Rattle.page_redo.specs.Fitting.{FitsEach}
+use Rattle.graph_pages.specs.Fitting.{IsNextPlace}
 use Rattle.graph_pages.proofs.StandingLaws.{root_is}
 use Rattle.graph_pages.proofs.StandingShape.{in_range}
-use Rattle.graph_pages.proofs.FreshPages.{fresh_length, get_behind}
+use Rattle.graph_pages.proofs.FreshPages.{fresh_length}
+use Rattle.page_redo.proofs.FreshBehind.{get_behind}
 use Rattle.graph_pages.proofs.PutNewFits.{put_new_fits}
 
 -- ---- places by their numbers

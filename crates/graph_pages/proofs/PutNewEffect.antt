@@ -27,16 +27,17 @@ use Rattle.page_redo.proofs.Others.{set_apart}
 use Rattle.page_redo.proofs.Putting.{IsPut, set_here, put_behind}
 use Rattle.page_redo.proofs.Pairs.{no_list, put_not_same}
 use Rattle.graph_pages.specs.Standing.{item_in, pointers, times_in, node_with as made_of, Stands}
-use Rattle.graph_pages.specs.Effects.{AreRedone}
-use Rattle.graph_pages.specs.Growing.{fresh_page}
-use Rattle.graph_pages.proofs.Given.{then_is, map_is, if_is, when_is}
+use Rattle.page_redo.specs.Growing.{AreRedone}
+use Rattle.page_redo.specs.Growing.{fresh_page}
+use Rattle.page_redo.proofs.Given.{then_is, map_is, if_is, when_is}
 use Rattle.graph_pages.proofs.KindsApart.{list_is_no_element}
 use Rattle.graph_pages.proofs.PagePlaces.{item_on}
 use Rattle.graph_pages.proofs.OneItem.{not_root}
 use Rattle.graph_pages.proofs.StandingShape.{in_range}
 use Rattle.graph_pages.proofs.SlotEffect.{below_all}
 use Rattle.graph_pages.proofs.TwoItems.{none_or_some}
-use Rattle.graph_pages.proofs.MarkEffect.{is_first, is_second, is_neither, two_set, two_same, two_first, two_second}
+use Rattle.page_redo.proofs.TwoBlocks.{is_first, is_second, is_neither, two_same, two_first, two_second}
+use Rattle.page_redo.proofs.TwoBlocks.{two_set}
 use Rattle.graph_pages.proofs.PutOldEffect.{any_slots, IsNode, node_is}
 use Rattle.graph_pages.proofs.FreshPages.{fresh_stands, fresh_items, fresh_pointers, fresh_length}
 use Rattle.graph_pages.proofs.ItemAdded.{IsAddedAt, with_more, added_at}

@@ -22,8 +22,9 @@ use Rattle.page_redo.proofs.Lengths.{length-element_bytes}
 use Rattle.page_redo.proofs.Pairs.{put_pair}
 use Rattle.page_redo.proofs.Putting.{IsPut, put_behind}
 use Rattle.graph_pages.specs.Standing.{Stands}
-use Rattle.graph_pages.specs.Growing.{fresh_page}
-use Rattle.graph_pages.specs.Fitting.{FitsEach, AreNextPlaces}
+use Rattle.page_redo.specs.Growing.{fresh_page}
+use Rattle.page_redo.specs.Fitting.{FitsEach}
+use Rattle.graph_pages.specs.Fitting.{AreNextPlaces}
 use Rattle.graph_pages.proofs.StandingLaws.{node_pages}
 use Rattle.graph_pages.proofs.RoleFits.{of_graph_kind}
 use Rattle.graph_pages.proofs.FreshPages.{fresh_stands}

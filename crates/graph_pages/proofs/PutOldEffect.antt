@@ -37,8 +37,8 @@ use Rattle.page_redo.proofs.Others.{set_apart}
 use Rattle.page_redo.proofs.Putting.{set_here, with_item_others}
 use Rattle.page_redo.proofs.Pairs.{no_list}
 use Rattle.graph_pages.specs.Standing.{element_in, links_in, item_in, node_with as made_of, Stands}
-use Rattle.graph_pages.specs.Effects.{AreRedone}
-use Rattle.graph_pages.proofs.Given.{then_is, map_is, if_is, when_is, item_bytes}
+use Rattle.page_redo.specs.Growing.{AreRedone}
+use Rattle.page_redo.proofs.Given.{then_is, map_is, if_is, when_is, item_bytes}
 use Rattle.graph_pages.proofs.KindsApart.{list_is_no_element, element_is_no_list}
 use Rattle.graph_pages.proofs.PageSets.{IsChangedAt, changed_at}
 use Rattle.graph_pages.proofs.OneItem.{not_root}
@@ -48,7 +48,8 @@ use Rattle.graph_pages.proofs.HeadEffect.{low_from, params_in_range}
 use Rattle.graph_pages.proofs.RoleFits.{list_alike, of_graph_kind}
 use Rattle.graph_pages.proofs.SlotEffect.{below_all}
 use Rattle.graph_pages.proofs.TwoItems.{AreBoth, none_or_some, both_effect}
-use Rattle.graph_pages.proofs.MarkEffect.{is_first, is_second, is_neither, two_set, two_same, two_first, two_second}
+use Rattle.page_redo.proofs.TwoBlocks.{is_first, is_second, is_neither, two_same, two_first, two_second}
+use Rattle.page_redo.proofs.TwoBlocks.{two_set}
 
 -- ---- the two tuples
 

@@ -31,9 +31,9 @@ use Rattle.page_redo.proofs.Lengths.{length-element_bytes}
 use Rattle.page_redo.proofs.Pairs.{put_pair}
 use Rattle.page_redo.proofs.Putting.{with_item_others}
 use Rattle.graph_pages.specs.Standing.{links_in, Stands}
-use Rattle.graph_pages.specs.Growing.{fresh_page}
-use Rattle.graph_pages.specs.Fitting.{FitsEach}
-use Rattle.graph_pages.proofs.Given.{then_is, item_bytes}
+use Rattle.page_redo.specs.Growing.{fresh_page}
+use Rattle.page_redo.specs.Fitting.{FitsEach}
+use Rattle.page_redo.proofs.Given.{then_is, item_bytes}
 use Rattle.graph_pages.proofs.KindsApart.{meta_is_no_element, meta_is_no_list}
 use Rattle.graph_pages.proofs.HeadEffect.{params_in_range}
 use Rattle.graph_pages.proofs.RoleFits.{of_graph_kind, tuple_there, node_there, list_alike}

@@ -17,13 +17,14 @@ use Rattle.vec_graph.specs.Effect.{effect, joined, dropped, changed_from, change
 use Rattle.page_redo.specs.PageChanges.{NewNode, new_node}
 use Rattle.page_redo.specs.Redo.{touched}
 use Rattle.graph_pages.specs.Standing.{Stands}
-use Rattle.graph_pages.specs.Effects.{RedoIsEffect, AreRedone}
-use Rattle.graph_pages.specs.Growing.{fresh_page, extended, AreAllRedone}
+use Rattle.graph_pages.specs.Effects.{RedoIsEffect}
+use Rattle.page_redo.specs.Growing.{AreRedone}
+use Rattle.page_redo.specs.Growing.{fresh_page, extended, AreAllRedone}
 use Rattle.graph_pages.specs.Following.{AreBelow, HasList, AreNewPlaces, Follows}
 use Rattle.graph_pages.proofs.StandingLaws.{root_is, node_below}
 use Rattle.graph_pages.proofs.StandingShape.{list_below}
-use Rattle.graph_pages.proofs.RoleFits.{no_more, only}
-use Rattle.graph_pages.proofs.RedoneOnce.{same_all}
+use Rattle.page_redo.proofs.OneFits.{no_more, only}
+use Rattle.page_redo.proofs.RedoneOnce.{same_all}
 use Rattle.graph_pages.proofs.OneBlock.{one_block}
 use Rattle.graph_pages.proofs.HeadEffect.{join_effect, drop_effect}
 use Rattle.graph_pages.proofs.SlotEffect.{link_effect, relist_effect}

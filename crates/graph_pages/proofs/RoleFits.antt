@@ -1,16 +1,14 @@
 -- The change of an event of one block fits the page there, where pages stand for a graph.
-use Rattle.std.proofs.Common.{◌≡◌, ℕ, zero, suc, ◌-◌, ◌&&◌, ◌==◌, Bool, true, false, List, [], ◌∷◌, ◌++◌, length, replicate, Option, Some, None, refl, sym, ap, subst, ◌∙◌, arith}
-use Rattle.std.specs.Prelude.{slice_get, All, Contains}
+use Rattle.std.proofs.Common.{◌≡◌, ℕ, zero, suc, ◌&&◌, ◌==◌, Bool, true, false, List, length, Option, Some, None, refl, sym, ap, subst, ◌∙◌, arith}
+use Rattle.std.specs.Prelude.{slice_get, All}
 use Rattle.std.specs.Bool.{beq}
 use Rattle.std.specs.Option.{option_map, option_and_then}
-use Rattle.std.proofs.lemmas.Bool.{and_parts, eqb-true, eq-eqb}
-use Rattle.std.proofs.lemmas.List.{append-nil}
+use Rattle.std.proofs.lemmas.Bool.{and_parts, eqb-true}
 use Rattle.std.proofs.lemmas.Option.{slice_get_within}
 use Rattle.index_sizes.specs.Sizes.{slots_of_level}
 use Rattle.byte_fields.specs.Reading.{Reader}
 use Rattle.byte_fields.proofs.EachField.{some_is}
 use Rattle.vec_names.specs.declared.tid.Tid.{Tid}
-use Rattle.page_bytes.specs.declared.kind.PageKind.TheVariants.{Hnsw}
 use Rattle.page_bytes.specs.Content.{Content, IsPage, item_at}
 use Rattle.vec_tuples.specs.declared.meta.Meta.{Meta}
 use Rattle.vec_tuples.specs.declared.element.Element.{Element}
@@ -22,51 +20,15 @@ use Rattle.vec_graph.specs.declared.node.Node.{Node}
 use Rattle.vec_graph.specs.declared.graph.Graph.{Graph}
 use Rattle.vec_graph.specs.Graph.{node_at}
 use Rattle.page_redo.specs.PageTuples.{in_whole, read_at, with_item, with_head, meta_at, head_changed, links_changed, meta_changed, is_graph, is_graph_page}
-use Rattle.page_redo.specs.PageChanges.{PageChange, on_graph, on_meta}
-use Rattle.page_redo.specs.Redo.{at_one, numbered}
+use Rattle.page_redo.specs.PageChanges.{on_graph, on_meta}
 use Rattle.graph_pages.specs.Standing.{item_in, read_in, element_in, links_in, head_in, is_list_of, is_element, is_list, node_with as made_of, Stands}
-use Rattle.graph_pages.specs.Growing.{fresh_page}
-use Rattle.graph_pages.proofs.Given.{then_is, map_is}
+use Rattle.page_redo.proofs.Given.{then_is, map_is}
 use Rattle.graph_pages.proofs.KindsApart.{meta_is_no_element, meta_is_no_list, element_is_no_list}
 use Rattle.graph_pages.proofs.StandingLaws.{IsRootOf, root_is, root_spelled, node_pages}
 use Rattle.graph_pages.proofs.HeadEffect.{low_from}
 use Rattle.graph_pages.proofs.OneItem.{not_root}
 use Rattle.graph_pages.proofs.ElementEffect.{first_of_two}
-
--- an event that touches one block fits the page there where its change does
-pub record OneFits (pages : List Content) (block number : ℕ) (role : PageChange) : Type 0 where
-  pub page : Content
-  pub there : slice_get pages block ≡ Some page
-  pub after : Content
-  pub is : option_map (numbered number) (at_one block role block page) ≡ Some after
-
--- an event that makes no block adds no page
-pub no_more : (pages : List Content) (v : Content) → pages ++ replicate (length pages - length pages) v ≡ pages
-no_more pages v =
-    let none : length pages - length pages ≡ 0 = omega arith in
-    ap (λ n. pages ++ replicate n v) none ∙ append-nil pages
-
-pub only : (a block : ℕ) → Contains (a ∷ []) block → a ≡ block
-only a block (zero, h, same) = same
-only a block (suc i, h, same) = absurd (omega (arith, h))
-
--- so it fits the page of each block that it touches
-pub each_of_one : {pages : List Content} {a number : ℕ} {role : PageChange} → OneFits pages a number role → (block : ℕ) → Contains (a ∷ []) block
-    → (page : Content) × (slice_get (pages ++ replicate (length pages - length pages) (fresh_page Hnsw)) block ≡ Some page) × (after : Content)
-    × (option_map (numbered number) (at_one a role block page) ≡ Some after)
-each_of_one {pages} {a} {number} {role} f block touches =
-    let there = ap (λ (l : List Content). slice_get l a) (no_more pages (fresh_page Hnsw)) ∙ f.there in
-    subst (λ (b : ℕ). (page : Content) × (slice_get (pages ++ replicate (length pages - length pages) (fresh_page Hnsw)) b ≡ Some page) × (after : Content)
-    × (option_map (numbered number) (at_one a role b page) ≡ Some after)) (only a block touches) (f.page, there, f.after, f.is)
-
-one_fits : (pages : List Content) (block number : ℕ) (role : PageChange) (page after : Content) → slice_get pages block ≡ Some page
-    → role page ≡ Some after → OneFits pages block number role
-one_fits pages block number role page after there is = record {
-  page = page;
-  there = there;
-  after = numbered number after;
-  is = rw (eq-eqb block block refl, is) refl;
-}
+use Rattle.page_redo.proofs.OneFits.{OneFits, one_fits}
 
 same_if_beq : (a b : Bool) → beq a b ≡ true → a ≡ b
 same_if_beq true true is = refl

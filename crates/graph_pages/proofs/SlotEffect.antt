@@ -20,7 +20,7 @@ use Rattle.page_redo.specs.PageTuples.{in_whole, with_item, links_changed, links
 use Rattle.page_redo.specs.PageChanges.{on_graph, is_current, linked, relisted}
 use Rattle.page_redo.specs.Redo.{at_one, numbered}
 use Rattle.graph_pages.specs.Standing.{is_slot_below, node_with as made_of, Stands}
-use Rattle.graph_pages.proofs.Given.{then_is, map_is, if_is, when_is, item_bytes}
+use Rattle.page_redo.proofs.Given.{then_is, map_is, if_is, when_is, item_bytes}
 use Rattle.page_redo.proofs.ItemLaws.{whole_spelled, whole_read}
 use Rattle.graph_pages.proofs.KindsApart.{list_is_no_element}
 use Rattle.graph_pages.proofs.PageSets.{changed_at}

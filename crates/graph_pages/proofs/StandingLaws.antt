@@ -17,7 +17,7 @@ use Rattle.vec_graph.specs.Graph.{node_at}
 use Rattle.page_redo.specs.PageTuples.{in_whole, meta_at, is_graph, is_meta_page}
 use Rattle.graph_pages.specs.Standing.{root_on, root, of_graph, is_root, IsNodePage, KeepsRulesUnder, item_in, element_in, links_in, node_with, node_in, Stands}
 use Rattle.graph_pages.proofs.Broken.{keeps}
-use Rattle.graph_pages.proofs.Given.{then_is, if_is, when_is, item_bytes}
+use Rattle.page_redo.proofs.Given.{then_is, if_is, when_is, item_bytes}
 use Rattle.page_redo.proofs.ItemLaws.{whole_spelled}
 
 -- ---- block 0

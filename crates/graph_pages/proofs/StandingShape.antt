@@ -18,7 +18,7 @@ use Rattle.vec_graph.specs.Graph.{node_at, HasAllSlots}
 use Rattle.vec_graph.specs.Places.{IsOnBlocks}
 use Rattle.page_redo.specs.PageTuples.{in_whole, is_graph}
 use Rattle.graph_pages.specs.Standing.{item_in, element_in, links_in, node_with, Stands}
-use Rattle.graph_pages.proofs.Given.{then_is, map_is}
+use Rattle.page_redo.proofs.Given.{then_is, map_is}
 use Rattle.graph_pages.proofs.StandingLaws.{node_below}
 use Rattle.graph_pages.proofs.HeadEffect.{params_in_range}
 use Rattle.graph_pages.proofs.RoleFits.{node_there, list_alike, of_graph_kind}

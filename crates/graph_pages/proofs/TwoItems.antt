@@ -20,7 +20,7 @@ use Rattle.vec_graph.specs.Graph.{node_at}
 use Rattle.vec_graph.specs.Effect.{with_node, changed_from, changed}
 use Rattle.page_redo.specs.PageTuples.{in_whole, is_graph_page}
 use Rattle.graph_pages.specs.Standing.{item_in, element_in, head_in, links_in, root_on, root, is_of_level, is_root, is_list_of, is_element, pointers, times_in, is_slot_below, is_list, is_node_item, IsNodePage, node_with as made_of, node_in, Stands}
-use Rattle.graph_pages.proofs.Given.{then_is}
+use Rattle.page_redo.proofs.Given.{then_is}
 use Rattle.graph_pages.proofs.PageSets.{IsChangedAt, by_place, get_here, get_apart, read_now, read_was, read_apart, read_alike, stood}
 use Rattle.graph_pages.proofs.Pointed.{named_once}
 use Rattle.graph_pages.proofs.OneItem.{same_list, same_entry}

@@ -19,7 +19,7 @@ use Rattle.vec_graph.specs.declared.graph.Graph.{Graph}
 use Rattle.vec_graph.specs.Effect.{with_node}
 use Rattle.page_redo.specs.PageTuples.{in_whole, is_graph_page}
 use Rattle.graph_pages.specs.Standing.{item_in, element_in, head_in, links_in, root_on, root, is_of_level, is_entry, is_root, is_list_of, is_element, pointer_of, pointers, is_place, times_in, is_slot_below, is_list, is_node_item, IsNodePage, node_with as made_of, node_in, Stands}
-use Rattle.graph_pages.proofs.Given.{then_is}
+use Rattle.page_redo.proofs.Given.{then_is}
 use Rattle.graph_pages.proofs.PlaceTests.{same_if_place, place_itself}
 use Rattle.graph_pages.proofs.PageSets.{by_place, get_here, get_apart}
 use Rattle.graph_pages.proofs.Pointed.{named_here}

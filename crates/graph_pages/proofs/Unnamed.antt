@@ -16,7 +16,7 @@ use Rattle.vec_tuples.specs.Reading.{element, links}
 use Rattle.vec_graph.specs.declared.graph.Graph.{Graph}
 use Rattle.page_redo.specs.PageTuples.{in_whole}
 use Rattle.graph_pages.specs.Standing.{item_in, links_in, is_list_of, pointer_of, pointers_on, pointers, is_place, times_in, Stands}
-use Rattle.graph_pages.proofs.Given.{got_from_all}
+use Rattle.page_redo.proofs.Given.{got_from_all}
 use Rattle.graph_pages.proofs.KindsApart.{meta_is_no_element, element_is_no_list}
 use Rattle.graph_pages.proofs.PlaceTests.{same_if_place}
 use Rattle.graph_pages.proofs.Pointed.{times_both}

@@ -1,12 +1,11 @@
 -- Redo of an event on the pages that stand for a graph.
-use Rattle.std.specs.Prelude.{◌≡◌, ℕ, List, length, slice_get, slice_set, Option, Some, All, Contains}
+use Rattle.std.specs.Prelude.{◌≡◌, ℕ, List, slice_get, slice_set, Option, Some, All}
 use Rattle.std.specs.Option.{option_map, option_and_then}
-use Rattle.vec_names.specs.declared.params.Params.{Params}
 use Rattle.vec_history.specs.declared.event.Event.{Event}
 use Rattle.page_bytes.specs.Content.{Content, IsPage}
 use Rattle.vec_graph.specs.declared.graph.Graph.{Graph}
 use Rattle.vec_graph.specs.Effect.{effect}
-use Rattle.page_redo.specs.Redo.{touched, redone, numbered}
+use Rattle.page_redo.specs.Redo.{redone, numbered}
 use Rattle.vec_tuples.specs.declared.meta.Meta.{Meta}
 use Rattle.vec_tuples.specs.Spelling.{meta_bytes}
 use Rattle.page_redo.specs.PageTuples.{meta_at, with_item}
@@ -18,13 +17,6 @@ abbrev pub RedoIsEffect : List Content → Graph → Event → Type 0
 RedoIsEffect pages g event =
     (wrap number block : ℕ) (page after : Content) → All IsPage pages → Stands pages g → slice_get pages block ≡ Some page
     → redone event g.params wrap number block page ≡ Some after → Stands (slice_set pages block after) (effect wrap event g)
-
--- There are as many pages. Each one whose block the event touches became what redo makes of it, and each other one stayed.
-pub record AreRedone (params : Params) (wrap number : ℕ) (event : Event) (pages after : List Content) : Type 0 where
-  pub count : length after ≡ length pages
-  pub there : (block : ℕ) (page : Content) → Contains (touched event params) block → slice_get pages block ≡ Some page
-      → slice_get after block ≡ redone event params wrap number block page
-  pub elsewhere : (block : ℕ) → (Contains (touched event params) block → ⊥) → slice_get after block ≡ slice_get pages block
 
 -- the format of the meta tuple, where block 0 has one
 abbrev pub format_in : List Content → Option ℕ

@@ -9,7 +9,7 @@ use Rattle.vec_graph.specs.declared.node.Node.{Node}
 use Rattle.vec_graph.specs.declared.graph.Graph.{Graph}
 use Rattle.vec_graph.specs.Graph.{node_at, HasLevel}
 use Rattle.graph_pages.specs.Standing.{item_in}
-use Rattle.graph_pages.specs.Growing.{blocks_after}
+use Rattle.page_redo.specs.Growing.{blocks_after}
 
 -- the places that the slots name are on so many blocks
 abbrev pub AreBelow : ℕ → List (Option Tid) → Type 0

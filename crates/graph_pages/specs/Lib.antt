@@ -2,7 +2,6 @@
 -- deleted element gives its places.
 pub mod Standing
 pub mod Effects
-pub mod Growing
 pub mod Fitting
 pub mod Following
 pub mod Choosing
@@ -10,4 +9,3 @@ pub mod Choosing
 pub mod Decoding
 pub mod FollowTests
 pub mod Filling
-pub mod Replaying

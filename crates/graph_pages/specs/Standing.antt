@@ -18,8 +18,8 @@ use Rattle.vec_tuples.specs.Reading.{element, links}
 use Rattle.vec_graph.specs.declared.node.Node.{Node}
 use Rattle.vec_graph.specs.declared.graph.Graph.{Graph}
 use Rattle.vec_graph.specs.Graph.{node_at}
-use Rattle.graph_pages.specs.declared.graph_fault.GraphFault.{GraphFault}
-use Rattle.graph_pages.specs.declared.graph_fault.GraphFault.TheVariants.{Memory, Bad}
+use Rattle.page_redo.specs.declared.graph_fault.GraphFault.{GraphFault}
+use Rattle.page_redo.specs.declared.graph_fault.GraphFault.TheVariants.{Memory, Bad}
 use Rattle.page_redo.specs.PageTuples.{in_whole, meta_at, is_graph, is_meta_page, is_graph_page}
 use Rattle.page_redo.specs.PageChanges.{when, if_so}
 

@@ -16,11 +16,12 @@ ghost use Rattle.vec_graph.specs.Graph.{node_at, HasLevel};
 ghost use Rattle.vec_graph.specs.Effect.{effect};
 ghost use Rattle.page_redo.specs.Redo.{touched};
 ghost use Rattle.graph_pages.specs.Standing.{item_in, Stands};
-ghost use Rattle.graph_pages.specs.Effects.{RedoIsEffect, AreRedone, format_in, with_format};
+ghost use Rattle.graph_pages.specs.Effects.{RedoIsEffect, format_in, with_format};
+ghost use Rattle.page_redo.specs.Growing.{AreRedone};
 ghost use Rattle.vec_tuples.specs.declared.meta.Meta.{Meta as Metas};
 ghost use Rattle.page_redo.specs.PageTuples.{meta_at};
 ghost use Rattle.graph_pages.specs.Following.{Follows};
-ghost use Rattle.graph_pages.specs.Growing.{fresh_page, blocks_after, AreAllRedone};
+ghost use Rattle.page_redo.specs.Growing.{fresh_page, blocks_after, AreAllRedone};
 
 use index_sizes::MOST_BLOCKS;
 use page_bytes::PageKind;

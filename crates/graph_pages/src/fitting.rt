@@ -16,8 +16,9 @@ ghost use Rattle.vec_graph.specs.declared.place.Place.{Place as NewPlace};
 ghost use Rattle.vec_graph.specs.Places.{new_place};
 ghost use Rattle.index_sizes.specs.Sizes.{slots_of_level};
 ghost use Rattle.graph_pages.specs.Standing.{Stands};
-ghost use Rattle.graph_pages.specs.Fitting.{FitsEach, AreNextPlaces};
-ghost use Rattle.graph_pages.specs.Growing.{extended};
+ghost use Rattle.page_redo.specs.Fitting.{FitsEach};
+ghost use Rattle.graph_pages.specs.Fitting.{AreNextPlaces};
+ghost use Rattle.page_redo.specs.Growing.{extended};
 
 use index_sizes::{MOST_BLOCKS, MOST_SLOTS};
 

@@ -12,7 +12,6 @@ mod decoded;
 mod effects;
 mod fitting;
 mod following;
-mod graph_fault;
 mod law;
 mod list_pointers;
 mod nodes;
@@ -30,8 +29,8 @@ pub use fitting::{
     law_put_again_fits, law_put_fresh_fits, law_put_new_fits, law_relist_fits,
 };
 pub use following::follows;
-pub use graph_fault::GraphFault;
 pub use law::law_standing;
+pub use page_redo::GraphFault;
 pub use room::{law_reuse, law_room};
 pub use standing::graph_of;
 

@@ -6,12 +6,12 @@ ghost use Rattle.graph_pages.specs.Standing.{IsGraphOf};
 use crate::block_rules::is_root;
 use crate::broken_blocks::first_broken;
 use crate::decoded::decoded;
-use crate::graph_fault::GraphFault;
 use crate::list_pointers::named_places;
 use crate::nodes::nodes_of;
 use crate::page_places::root;
 use index_sizes::MOST_BLOCKS;
 use page_bytes::Page;
+use page_redo::GraphFault;
 use std::alloc::Global;
 use vec_graph::Graph;
 

@@ -26,7 +26,7 @@ use Rattle.vec_graph.specs.Legal.{IsLegal}
 use Rattle.vec_graph.proofs.Placing.{on_blocks_after}
 use Rattle.vec_graph.proofs.Levels.{level_stays}
 use Rattle.graph_pages.specs.Standing.{Stands}
-use Rattle.graph_pages.specs.Fitting.{FitsEach}
+use Rattle.page_redo.specs.Fitting.{FitsEach}
 use Rattle.graph_pages.specs.Following.{AreBelow, HasList, Follows}
 use Rattle.graph_pages.proofs.StandingShape.{in_range, of_kind}
 use Rattle.graph_pages.proofs.EventFits.{hint_fits, entry_fits, join_fits, drop_fits, link_fits, relist_fits}

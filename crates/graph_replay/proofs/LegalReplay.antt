@@ -14,7 +14,7 @@ use Rattle.vec_graph.specs.Places.{IsOnBlocks}
 use Rattle.vec_graph.specs.Effect.{effect, after, state_after}
 use Rattle.vec_graph.specs.Legal.{IsAllowed, IsLegal}
 use Rattle.vec_graph.proofs.Levels.{after_append}
-use Rattle.graph_pages.specs.Replaying.{next_number, logged, Replayed}
+use Rattle.page_redo.specs.Replaying.{next_number, logged, Replayed}
 use Rattle.graph_replay.specs.Replaying.{effects, FollowInTurn}
 use Rattle.graph_replay.proofs.Replays.{IsIndex, next_low, one_event, replay_there, replay_effect, replay_parted}
 use Rattle.graph_replay.proofs.AllowedFits.{allowed_fits}

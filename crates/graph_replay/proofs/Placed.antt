@@ -33,12 +33,13 @@ use Rattle.vec_graph.specs.Rules.{IsPlaced}
 use Rattle.vec_graph.proofs.Placing.{stands_there, passes_there}
 use Rattle.page_redo.specs.PageChanges.{new_node}
 use Rattle.graph_pages.specs.Standing.{item_in, Stands}
-use Rattle.graph_pages.specs.Growing.{fresh_page, blocks_after, extended}
-use Rattle.graph_pages.specs.Fitting.{FitsEach, IsNextPlace}
+use Rattle.page_redo.specs.Growing.{fresh_page, blocks_after, extended}
+use Rattle.page_redo.specs.Fitting.{FitsEach}
+use Rattle.graph_pages.specs.Fitting.{IsNextPlace}
 use Rattle.graph_pages.specs.Following.{AreBelow, AreNextBlocks, Follows}
-use Rattle.graph_pages.proofs.Given.{then_is, if_is}
+use Rattle.page_redo.proofs.Given.{then_is, if_is}
 use Rattle.graph_pages.proofs.PagePlaces.{item_within}
-use Rattle.graph_pages.proofs.FreshPages.{get_front}
+use Rattle.page_redo.proofs.FreshBehind.{get_front}
 use Rattle.graph_pages.proofs.StandingShape.{in_range, of_kind}
 use Rattle.graph_pages.proofs.PutOldFits.{put_old_fits}
 use Rattle.graph_pages.proofs.PutNewFits.{put_new_fits}

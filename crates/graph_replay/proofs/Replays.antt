@@ -11,15 +11,15 @@ use Rattle.vec_graph.specs.Effect.{effect, joined, linked, relisted, dropped, ma
 use Rattle.vec_graph.proofs.Remaining.{params_changed}
 use Rattle.graph_pages.specs.Standing.{Stands}
 use Rattle.graph_pages.specs.Effects.{format_in}
-use Rattle.graph_pages.specs.Growing.{AreAllRedone}
+use Rattle.page_redo.specs.Growing.{AreAllRedone}
 use Rattle.graph_pages.specs.Following.{Follows}
 use Rattle.graph_pages.proofs.RedoEffect.{redo_effect}
 use Rattle.graph_pages.proofs.BlocksKept.{blocks_kept}
 use Rattle.graph_pages.proofs.PagesAfter.{pages_after, format_after}
-use Rattle.graph_pages.specs.Replaying.{next_number, Replayed}
+use Rattle.page_redo.specs.Replaying.{next_number, Replayed}
 use Rattle.graph_replay.specs.Replaying.{effects, FollowInTurn}
-use Rattle.graph_pages.proofs.RedoneThere.{redone_there}
-use Rattle.graph_pages.proofs.ReplayedOnce.{replay_once}
+use Rattle.page_redo.proofs.RedoneThere.{redone_there}
+use Rattle.page_redo.proofs.ReplayedOnce.{replay_once}
 
 -- no event changes the parameters
 pub effect_params : (wrap : ℕ) (e : Event) (g : Graph) → (effect wrap e g).params ≡ g.params

@@ -4,10 +4,10 @@ use Rattle.vec_history.specs.declared.event.Event.{Event}
 use Rattle.page_bytes.specs.Content.{Content}
 use Rattle.vec_graph.specs.declared.graph.Graph.{Graph}
 use Rattle.vec_graph.specs.Effect.{effect}
-use Rattle.graph_pages.specs.Growing.{AreAllRedone}
+use Rattle.page_redo.specs.Growing.{AreAllRedone}
 use Rattle.graph_pages.specs.Following.{Follows}
-use Rattle.graph_pages.specs.Fitting.{FitsEach}
-use Rattle.graph_pages.specs.Replaying.{next_number}
+use Rattle.page_redo.specs.Fitting.{FitsEach}
+use Rattle.page_redo.specs.Replaying.{next_number}
 
 -- the graph after these events
 abbrev pub effects : ℕ → List Event → Graph → Graph

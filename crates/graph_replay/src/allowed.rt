@@ -12,7 +12,7 @@ ghost use Rattle.vec_graph.specs.Effect.{after};
 ghost use Rattle.vec_graph.specs.Rules.{IsEventAllowed};
 ghost use Rattle.vec_graph.specs.Legal.{IsLegal};
 ghost use Rattle.graph_pages.specs.Standing.{Stands};
-ghost use Rattle.graph_pages.specs.Fitting.{FitsEach};
+ghost use Rattle.page_redo.specs.Fitting.{FitsEach};
 ghost use Rattle.graph_pages.specs.Following.{Follows};
 
 use index_sizes::MOST_BLOCKS;

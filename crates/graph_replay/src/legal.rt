@@ -8,7 +8,7 @@ ghost use Rattle.vec_graph.specs.Effect.{after, state_after};
 ghost use Rattle.vec_graph.specs.Legal.{IsLegal};
 ghost use Rattle.graph_pages.specs.Standing.{Stands};
 ghost use Rattle.graph_pages.specs.Effects.{format_in};
-ghost use Rattle.graph_pages.specs.Replaying.{logged, Replayed};
+ghost use Rattle.page_redo.specs.Replaying.{logged, Replayed};
 ghost use Rattle.graph_replay.specs.Replaying.{FollowInTurn};
 
 use index_sizes::MOST_BLOCKS;

@@ -7,7 +7,7 @@ ghost use Rattle.page_bytes.specs.Content.{Content, IsPage};
 ghost use Rattle.vec_graph.specs.declared.graph.Graph.{Graph};
 ghost use Rattle.graph_pages.specs.Standing.{Stands};
 ghost use Rattle.graph_pages.specs.Effects.{format_in};
-ghost use Rattle.graph_pages.specs.Replaying.{Replayed};
+ghost use Rattle.page_redo.specs.Replaying.{Replayed};
 ghost use Rattle.graph_replay.specs.Replaying.{effects, FollowInTurn};
 
 use index_sizes::MOST_BLOCKS;

@@ -25,8 +25,8 @@ use Rattle.ivf_graph.proofs.Judging.{after_more}
 use Rattle.graph_pages.specs.Standing.{Stands}
 use Rattle.graph_pages.specs.Following.{Follows}
 use Rattle.graph_pages.specs.Effects.{format_in}
-use Rattle.graph_pages.specs.Growing.{AreAllRedone}
-use Rattle.graph_pages.specs.Fitting.{FitsEach}
+use Rattle.page_redo.specs.Growing.{AreAllRedone}
+use Rattle.page_redo.specs.Fitting.{FitsEach}
 use Rattle.graph_replay.proofs.AllowedFits.{allowed_fits}
 use Rattle.graph_replay.proofs.Replays.{one_event}
 use Rattle.ivf_graph.specs.Rules as lists_rules

@@ -8,8 +8,8 @@ ghost use Rattle.vec_history.specs.Acts.{act_of};
 ghost use Rattle.vec_history.specs.Settling.{is_lasting};
 ghost use Rattle.vec_event.specs.Spelling.{IsWritable};
 ghost use Rattle.page_bytes.specs.Content.{Content};
-ghost use Rattle.graph_pages.specs.Growing.{AreAllRedone};
-ghost use Rattle.graph_pages.specs.Fitting.{FitsEach};
+ghost use Rattle.page_redo.specs.Growing.{AreAllRedone};
+ghost use Rattle.page_redo.specs.Fitting.{FitsEach};
 ghost use Rattle.vec_steps.specs.Index.{Index, IsShaped, IsLegal, IsOfParams};
 ghost use Rattle.index_pages.specs.Standing.{AreOf, index_after};
 

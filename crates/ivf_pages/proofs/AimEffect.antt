@@ -28,7 +28,7 @@ use Rattle.page_redo.specs.Redo.{at_one, numbered}
 use Rattle.page_redo.proofs.ItemLaws.{whole_spelled, whole_read}
 use Rattle.page_redo.proofs.Others.{set_apart}
 use Rattle.page_redo.proofs.Putting.{set_here, with_item_here, with_item_others}
-use Rattle.graph_pages.proofs.Given.{then_is, map_is, if_is, item_bytes}
+use Rattle.page_redo.proofs.Given.{then_is, map_is, if_is, item_bytes}
 use Rattle.ivf_pages.specs.Standing.{params_on, lists_end, is_among, has_entries, centre_in, chain_from, chain_of, chain_in, has_aim, rows_of, part_in, list_with, list_in, IsListPage, IsEntryPage, Stands}
 use Rattle.ivf_pages.specs.Effects.{RedoIsEffect}
 use Rattle.ivf_pages.proofs.Given.{map_same_on}

@@ -9,7 +9,7 @@ use Rattle.vec_history.specs.Settling.{is_lasting}
 use Rattle.page_bytes.specs.Content.{Content, IsPage}
 use Rattle.ivf_graph.specs.declared.graph.IvfGraph.{IvfGraph}
 use Rattle.ivf_graph.specs.Rules.{IsEventAllowed}
-use Rattle.graph_pages.specs.Fitting.{FitsEach}
+use Rattle.page_redo.specs.Fitting.{FitsEach}
 use Rattle.ivf_pages.specs.Standing.{Stands}
 use Rattle.ivf_pages.specs.Following.{Follows}
 use Rattle.ivf_pages.proofs.EventFits.{add_fits, drop_fits, aim_fits, grow_fits}

@@ -10,8 +10,8 @@ use Rattle.vec_names.specs.Params.{IsInRange}
 use Rattle.page_bytes.specs.Content.{Content}
 use Rattle.vec_tuples.specs.declared.centre.CentreTuple.{CentreTuple}
 use Rattle.ivf_graph.specs.declared.list.IvfList.{IvfList}
-use Rattle.graph_pages.specs.declared.graph_fault.GraphFault.{GraphFault}
-use Rattle.graph_pages.specs.declared.graph_fault.GraphFault.TheVariants.{Memory, Bad}
+use Rattle.page_redo.specs.declared.graph_fault.GraphFault.{GraphFault}
+use Rattle.page_redo.specs.declared.graph_fault.GraphFault.TheVariants.{Memory, Bad}
 use Rattle.page_redo.specs.PageChanges.{list_block}
 use Rattle.ivf_pages.specs.Standing.{params_in, centre_in, has_aim, lists_end, list_with, list_in, IsListPage, KeepsRulesOf, KeepsRulesUnder, KeepsRules, IsFirstBroken, Stands, IsIndexOf}
 use Rattle.ivf_pages.specs.Walking.{AreFirstTuples, AreEntriesBelow, IsFirstBadEntry, IsFirstAimless, AreAllRows}

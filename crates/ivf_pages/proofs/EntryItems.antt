@@ -11,7 +11,7 @@ use Rattle.vec_tuples.specs.Reading.{entry}
 use Rattle.ivf_graph.specs.Graph.{Row}
 use Rattle.page_redo.specs.PageTuples.{in_whole}
 use Rattle.page_redo.specs.PageChanges.{when}
-use Rattle.graph_pages.proofs.Given.{map_is}
+use Rattle.page_redo.proofs.Given.{map_is}
 use Rattle.ivf_pages.specs.Standing.{is_entry, row_in, row_with}
 use Rattle.ivf_pages.specs.Walking.{all_rows}
 

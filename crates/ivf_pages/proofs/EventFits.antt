@@ -25,12 +25,12 @@ use Rattle.page_redo.specs.PageTuples.{in_whole, with_item, added, centre_at, is
 use Rattle.page_redo.specs.PageChanges.{PageChange, when, if_so, on_entries, entry_added, grown, chained, rises, entries_dropped, list_block, list_offset, aimed}
 use Rattle.page_redo.specs.Redo.{numbered, redone}
 use Rattle.page_redo.proofs.ItemLaws.{whole_spelled}
-use Rattle.graph_pages.specs.Growing.{fresh_page, extended}
-use Rattle.graph_pages.specs.Fitting.{FitsEach}
-use Rattle.graph_pages.proofs.Given.{then_is, got_from_all, item_bytes}
-use Rattle.graph_pages.proofs.FreshPages.{get_front}
-use Rattle.graph_pages.proofs.MarkEffect.{two_first, two_second}
-use Rattle.graph_pages.proofs.RoleFits.{OneFits, each_of_one}
+use Rattle.page_redo.specs.Growing.{fresh_page, extended}
+use Rattle.page_redo.specs.Fitting.{FitsEach}
+use Rattle.page_redo.proofs.Given.{then_is, got_from_all, item_bytes}
+use Rattle.page_redo.proofs.FreshBehind.{get_front}
+use Rattle.page_redo.proofs.TwoBlocks.{two_first, two_second}
+use Rattle.page_redo.proofs.OneFits.{OneFits, each_of_one}
 use Rattle.ivf_pages.specs.Standing.{has_entries, chain_from, part_in, Stands}
 use Rattle.ivf_pages.proofs.Chains.{among_chain, entries_there}
 use Rattle.ivf_pages.proofs.Root.{root_is, in_range, entries_behind, list_block_low}

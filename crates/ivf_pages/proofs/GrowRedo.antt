@@ -20,11 +20,11 @@ use Rattle.page_redo.specs.PageTuples.{added, is_graph, is_entries_page}
 use Rattle.page_redo.specs.PageChanges.{when, if_so, grown, chained}
 use Rattle.page_redo.specs.Redo.{numbered}
 use Rattle.page_redo.proofs.Others.{given}
-use Rattle.graph_pages.specs.Effects.{AreRedone}
-use Rattle.graph_pages.specs.Growing.{fresh_page, extended, AreAllRedone}
-use Rattle.graph_pages.proofs.Given.{map_is, if_is, when_is}
-use Rattle.graph_pages.proofs.FreshPages.{get_front}
-use Rattle.graph_pages.proofs.MarkEffect.{two_first, two_second}
+use Rattle.page_redo.specs.Growing.{AreRedone}
+use Rattle.page_redo.specs.Growing.{fresh_page, extended, AreAllRedone}
+use Rattle.page_redo.proofs.Given.{map_is, if_is, when_is}
+use Rattle.page_redo.proofs.FreshBehind.{get_front}
+use Rattle.page_redo.proofs.TwoBlocks.{two_first, two_second}
 use Rattle.ivf_pages.specs.Standing.{has_entries, centre_in, chain_from, chain_of, ends_at, is_entry, rows_of, part_in, list_with, Stands}
 use Rattle.ivf_pages.specs.Following.{IsNextBehind}
 use Rattle.ivf_pages.proofs.Chains.{among_chain, entries_there}

@@ -10,7 +10,7 @@ use Rattle.page_bytes.specs.Content.{Content}
 use Rattle.ivf_graph.specs.Graph.{Row}
 use Rattle.page_redo.specs.PageTuples.{is_entries_page}
 use Rattle.page_redo.specs.PageChanges.{when}
-use Rattle.graph_pages.proofs.Given.{when_is}
+use Rattle.page_redo.proofs.Given.{when_is}
 use Rattle.ivf_pages.specs.declared.marks.Mark.{Mark}
 use Rattle.ivf_pages.specs.declared.marks.Mark.TheVariants.{Nowhere, Once, Wrongly}
 use Rattle.ivf_pages.specs.Standing.{is_among, next_of, chain_in, ends_at, is_entry, row_in, rows_of, IsEntryPage}

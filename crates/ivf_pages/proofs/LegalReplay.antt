@@ -13,12 +13,12 @@ use Rattle.ivf_graph.specs.Effect.{effect, after as after_acts}
 use Rattle.ivf_graph.specs.Legal.{IsAllowed}
 use Rattle.ivf_graph.proofs.Judging.{after_more}
 use Rattle.ivf_pages.specs.Standing.{Stands}
-use Rattle.graph_pages.specs.Replaying.{next_number, logged, Replayed}
+use Rattle.page_redo.specs.Replaying.{next_number, logged, Replayed}
 use Rattle.ivf_pages.proofs.RedoEffect.{redo_effect}
 use Rattle.ivf_pages.proofs.BlocksKept.{blocks_kept}
 use Rattle.ivf_pages.proofs.PagesKept.{pages_kept}
 use Rattle.ivf_pages.proofs.AllowedFits.{allowed_fits}
-use Rattle.graph_pages.proofs.RedoneThere.{redone_there}
+use Rattle.page_redo.proofs.RedoneThere.{redone_there}
 use Rattle.ivf_pages.proofs.Replays.{passing_stays}
 
 module _ (p : Params) (wrap : ℕ) (base : IvfGraph) where

@@ -8,7 +8,7 @@ use Rattle.vec_tuples.specs.declared.entry.EntryRow.{EntryRow}
 use Rattle.vec_tuples.specs.declared.centre.CentreTuple.{CentreTuple}
 use Rattle.vec_tuples.specs.Spelling.{bits_bytes, entry_bytes, centre_bytes}
 use Rattle.vec_tuples.proofs.EachField.{packed_long}
-use Rattle.graph_pages.proofs.SpelledBytes.{AllBytes, one, both, word, pointer, value}
+use Rattle.page_redo.proofs.SpelledBytes.{AllBytes, one, both, word, pointer, value}
 use Rattle.ivf_pages.proofs.RowRoom.{length-entry_bytes}
 
 entry_all : (row : EntryRow) → AllBytes (entry_bytes row)

@@ -23,10 +23,10 @@ use Rattle.page_redo.specs.PageTuples.{in_whole, added, with_item, centre_at, is
 use Rattle.page_redo.specs.PageChanges.{PageChange, when, if_so, on_entries, entry_added, grown, chained, rises, entries_dropped, list_block, list_offset, aimed}
 use Rattle.page_redo.specs.Redo.{at_one, at_two, changed, touched, numbered}
 use Rattle.page_redo.proofs.ItemLaws.{whole_spelled}
-use Rattle.graph_pages.specs.Growing.{fresh_page, new_kind, blocks_after, extended, AreAllRedone}
-use Rattle.graph_pages.proofs.Given.{then_is, map_is, if_is, when_is, item_bytes, got_from_all}
-use Rattle.graph_pages.proofs.RedoneOnce.{is_in}
-use Rattle.graph_pages.proofs.PagesKept.{page_set, page_more}
+use Rattle.page_redo.specs.Growing.{fresh_page, new_kind, blocks_after, extended, AreAllRedone}
+use Rattle.page_redo.proofs.Given.{then_is, map_is, if_is, when_is, item_bytes, got_from_all}
+use Rattle.page_redo.proofs.RedoneOnce.{is_in}
+use Rattle.page_redo.proofs.KeptPages.{page_set, page_more}
 use Rattle.ivf_pages.specs.Standing.{Stands}
 use Rattle.ivf_pages.specs.Following.{Follows}
 use Rattle.ivf_pages.proofs.Root.{in_range}

@@ -6,8 +6,8 @@ use Rattle.std.proofs.lemmas.List.{length_push}
 use Rattle.vec_names.specs.declared.params.Params.{Params}
 use Rattle.page_bytes.specs.Content.{Content}
 use Rattle.ivf_graph.specs.Graph.{Row}
-use Rattle.graph_pages.specs.declared.graph_fault.GraphFault.{GraphFault}
-use Rattle.graph_pages.specs.declared.graph_fault.GraphFault.TheVariants.{Memory, Bad}
+use Rattle.page_redo.specs.declared.graph_fault.GraphFault.{GraphFault}
+use Rattle.page_redo.specs.declared.graph_fault.GraphFault.TheVariants.{Memory, Bad}
 use Rattle.ivf_pages.specs.Standing.{lists_end, rows_of, IsEntryPage}
 use Rattle.ivf_pages.specs.Walking.{AreRowsFrom, AreEntriesBelow, HasRows, AreAllRows}
 

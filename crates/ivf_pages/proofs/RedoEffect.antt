@@ -22,11 +22,11 @@ use Rattle.page_redo.specs.PageChanges.{list_block}
 use Rattle.page_redo.specs.Redo.{touched, redone}
 use Rattle.page_redo.proofs.Others.{set_apart}
 use Rattle.page_redo.proofs.Putting.{set_here}
-use Rattle.graph_pages.specs.Effects.{AreRedone}
-use Rattle.graph_pages.specs.Growing.{fresh_page, extended, AreAllRedone}
-use Rattle.graph_pages.proofs.Given.{map_is}
-use Rattle.graph_pages.proofs.RedoneOnce.{same_all}
-use Rattle.graph_pages.proofs.RoleFits.{no_more, only}
+use Rattle.page_redo.specs.Growing.{AreRedone}
+use Rattle.page_redo.specs.Growing.{fresh_page, extended, AreAllRedone}
+use Rattle.page_redo.proofs.Given.{map_is}
+use Rattle.page_redo.proofs.RedoneOnce.{same_all}
+use Rattle.page_redo.proofs.OneFits.{no_more, only}
 use Rattle.ivf_pages.specs.Standing.{is_among, has_entries, centre_in, chain_from, rows_of, part_in, list_with, Stands}
 use Rattle.ivf_pages.specs.Effects.{RedoIsEffect}
 use Rattle.ivf_pages.specs.Following.{Follows}

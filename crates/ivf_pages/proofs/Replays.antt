@@ -17,7 +17,7 @@ use Rattle.ivf_graph.specs.Legal.{IsAllowed}
 use Rattle.ivf_graph.proofs.Judging.{after_more}
 use Rattle.ivf_pages.specs.Standing.{Stands}
 use Rattle.ivf_pages.specs.Following.{Follows}
-use Rattle.graph_pages.specs.Replaying.{next_number, logged, Replayed}
+use Rattle.page_redo.specs.Replaying.{next_number, logged, Replayed}
 use Rattle.ivf_pages.specs.Replaying.{effects, FollowInTurn}
 use Rattle.ivf_pages.proofs.RedoEffect.{redo_effect}
 use Rattle.ivf_pages.proofs.BlocksKept.{blocks_kept}

@@ -14,7 +14,7 @@ use Rattle.vec_tuples.specs.declared.centre.CentreTuple.{CentreTuple}
 use Rattle.ivf_graph.specs.declared.list.IvfList.{IvfList}
 use Rattle.ivf_graph.specs.declared.graph.IvfGraph.{IvfGraph}
 use Rattle.ivf_graph.specs.Graph.{Row, Part, rows_on, row_need, taken, HasRoom}
-use Rattle.graph_pages.proofs.Given.{got_from_all}
+use Rattle.page_redo.proofs.Given.{got_from_all}
 use Rattle.ivf_pages.specs.Standing.{is_among, centre_in, chain_from, chain_of, lists_end, is_entry, rows_of, part_in, list_with, Stands}
 use Rattle.ivf_pages.proofs.Root.{in_range, entries_behind}
 use Rattle.ivf_pages.proofs.RowRoom.{taken_is}

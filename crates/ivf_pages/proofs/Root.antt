@@ -20,7 +20,7 @@ use Rattle.ivf_graph.specs.declared.graph.IvfGraph.{IvfGraph}
 use Rattle.page_redo.specs.PageTuples.{in_whole, meta_at, is_graph, is_meta_page, is_lists_page, is_entries_page}
 use Rattle.page_redo.specs.PageChanges.{list_block}
 use Rattle.page_redo.proofs.ItemLaws.{whole_spelled}
-use Rattle.graph_pages.proofs.Given.{then_is, if_is, when_is, item_bytes}
+use Rattle.page_redo.proofs.Given.{then_is, if_is, when_is, item_bytes}
 use Rattle.ivf_pages.specs.Standing.{of_lists, params_on, params_in, lists_end, KeepsRulesOf, Stands}
 
 -- ---- block 0

@@ -15,10 +15,10 @@ use Rattle.ivf_graph.specs.declared.graph.IvfGraph.{IvfGraph}
 use Rattle.page_redo.specs.PageTuples.{added, with_item, centre_at, is_graph, is_meta_page, is_lists_page, is_entries_page}
 use Rattle.page_redo.specs.PageChanges.{PageChange, when, if_so, on_entries, entry_added, grown, chained, rises, entries_dropped, list_block, list_offset, aimed}
 use Rattle.page_redo.specs.Redo.{changed, touched}
-use Rattle.graph_pages.specs.Growing.{fresh_page, new_kind, blocks_after, extended, AreAllRedone}
-use Rattle.graph_pages.proofs.Given.{if_is, then_is}
-use Rattle.graph_pages.proofs.FreshPages.{get_front}
-use Rattle.graph_pages.proofs.RedoneOnce.{is_in}
+use Rattle.page_redo.specs.Growing.{fresh_page, new_kind, blocks_after, extended, AreAllRedone}
+use Rattle.page_redo.proofs.Given.{if_is, then_is}
+use Rattle.page_redo.proofs.FreshBehind.{get_front}
+use Rattle.page_redo.proofs.RedoneOnce.{is_in}
 use Rattle.ivf_pages.specs.Standing.{Stands}
 use Rattle.ivf_pages.specs.Following.{Follows}
 use Rattle.ivf_pages.proofs.Root.{IsRootOf, root_is, no_meta, no_meta_lists}

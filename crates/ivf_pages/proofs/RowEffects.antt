@@ -23,7 +23,7 @@ use Rattle.page_redo.specs.PageChanges.{PageChange, when, if_so, on_entries, ris
 use Rattle.page_redo.specs.Redo.{at_one, numbered}
 use Rattle.page_redo.proofs.ItemLaws.{whole_read}
 use Rattle.page_redo.proofs.Others.{given}
-use Rattle.graph_pages.proofs.Given.{map_is, if_is, when_is}
+use Rattle.page_redo.proofs.Given.{map_is, if_is, when_is}
 use Rattle.ivf_pages.specs.Standing.{is_entry, row_in, row_with, Stands}
 use Rattle.ivf_pages.specs.Effects.{RedoIsEffect}
 use Rattle.ivf_pages.proofs.Root.{in_range, entries_behind}

@@ -12,7 +12,7 @@ use Rattle.ivf_graph.specs.declared.list.IvfList.{IvfList}
 use Rattle.ivf_graph.specs.declared.graph.IvfGraph.{IvfGraph}
 use Rattle.ivf_graph.specs.Graph.{Row, Part, parts, rows_on}
 use Rattle.page_redo.specs.PageTuples.{is_entries_page}
-use Rattle.graph_pages.proofs.Given.{map_is}
+use Rattle.page_redo.proofs.Given.{map_is}
 use Rattle.ivf_pages.specs.Standing.{is_among, has_entries, centre_in, chain_from, rows_of, part_in, list_with, Stands}
 use Rattle.ivf_pages.proofs.Chains.{among_chain, entries_there}
 

@@ -16,7 +16,7 @@ use Rattle.vec_tuples.proofs.RowLaws.{centre_field, entry_field}
 use Rattle.ivf_graph.specs.Graph.{Row}
 use Rattle.page_bytes.specs.declared.kind.PageKind.TheVariants.{IvfEntries}
 use Rattle.page_redo.specs.PageTuples.{in_whole}
-use Rattle.graph_pages.specs.Growing.{fresh_page}
+use Rattle.page_redo.specs.Growing.{fresh_page}
 use Rattle.page_redo.proofs.ItemLaws.{whole_read}
 use Rattle.ivf_pages.specs.Standing.{of_lists, params_in, is_among, centre_in, chain_of, chain_in, ends_at, has_aim, is_entry, row_with, rows_of, list_with, list_in, IsInOneChain, IsListPage, IsEntryPage, KeepsRulesOf, KeepsRulesUnder, KeepsRules, IsFirstBroken, Stands}
 use Rattle.ivf_pages.specs.Examples.{small_params, small_meta, meta_page, list_page, row_page, small_pages, small_index}

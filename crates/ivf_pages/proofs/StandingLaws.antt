@@ -10,7 +10,7 @@ use Rattle.page_bytes.specs.Content.{Content}
 use Rattle.ivf_graph.specs.declared.list.IvfList.{IvfList}
 use Rattle.ivf_graph.specs.declared.graph.IvfGraph.{IvfGraph}
 use Rattle.page_redo.specs.PageTuples.{is_graph}
-use Rattle.graph_pages.proofs.RedoneOnce.{same_all}
+use Rattle.page_redo.proofs.RedoneOnce.{same_all}
 use Rattle.ivf_pages.specs.Standing.{KeepsRulesUnder, KeepsRules, IsFirstBroken, Stands}
 use Rattle.ivf_pages.proofs.Root.{root_is}
 

@@ -7,7 +7,7 @@ use Rattle.std.proofs.lemmas.Option.{slice_get_within, slice_get-get_or, same_So
 use Rattle.std.proofs.lemmas.List.{append_assoc, append-nil}
 use Rattle.page_bytes.specs.Content.{Content}
 use Rattle.page_redo.specs.PageChanges.{when}
-use Rattle.graph_pages.proofs.Given.{when_is}
+use Rattle.page_redo.proofs.Given.{when_is}
 use Rattle.ivf_pages.specs.declared.marks.Mark.{Mark}
 use Rattle.ivf_pages.specs.declared.marks.Mark.TheVariants.{Nowhere, Once, Wrongly}
 use Rattle.ivf_pages.specs.Standing.{is_among, has_entries, next_of, goes_to, followed, chain_from, ends_at}

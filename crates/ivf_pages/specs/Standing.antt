@@ -14,8 +14,8 @@ use Rattle.ivf_graph.specs.declared.list.IvfList.{IvfList}
 use Rattle.ivf_graph.specs.declared.graph.IvfGraph.{IvfGraph}
 use Rattle.ivf_graph.specs.Graph.{Row, Part}
 use Rattle.ivf_graph.specs.Looks.{centre_pages}
-use Rattle.graph_pages.specs.declared.graph_fault.GraphFault.{GraphFault}
-use Rattle.graph_pages.specs.declared.graph_fault.GraphFault.TheVariants.{Memory, Bad}
+use Rattle.page_redo.specs.declared.graph_fault.GraphFault.{GraphFault}
+use Rattle.page_redo.specs.declared.graph_fault.GraphFault.TheVariants.{Memory, Bad}
 use Rattle.page_redo.specs.PageTuples.{in_whole, meta_at, centre_at, is_graph, is_meta_page, is_lists_page, is_entries_page}
 use Rattle.page_redo.specs.PageChanges.{when, if_so, list_block, list_offset}
 

@@ -6,8 +6,8 @@ use Rattle.vec_names.specs.declared.params.Params.{Params}
 use Rattle.page_bytes.specs.Content.{Content}
 use Rattle.vec_tuples.specs.declared.centre.CentreTuple.{CentreTuple}
 use Rattle.ivf_graph.specs.Graph.{Row}
-use Rattle.graph_pages.specs.declared.graph_fault.GraphFault.{GraphFault}
-use Rattle.graph_pages.specs.declared.graph_fault.GraphFault.TheVariants.{Memory, Bad}
+use Rattle.page_redo.specs.declared.graph_fault.GraphFault.{GraphFault}
+use Rattle.page_redo.specs.declared.graph_fault.GraphFault.TheVariants.{Memory, Bad}
 use Rattle.page_redo.specs.PageTuples.{is_lists_page}
 use Rattle.page_redo.specs.PageChanges.{when, list_block}
 use Rattle.ivf_pages.specs.declared.marks.Mark.{Mark}

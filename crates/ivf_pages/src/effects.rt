@@ -13,7 +13,7 @@ ghost use Rattle.ivf_graph.specs.declared.graph.IvfGraph.{IvfGraph};
 ghost use Rattle.ivf_graph.specs.Effect.{effect};
 ghost use Rattle.ivf_graph.specs.Rules.{IsAimAllowed};
 ghost use Rattle.page_redo.specs.Redo.{touched};
-ghost use Rattle.graph_pages.specs.Growing.{AreAllRedone};
+ghost use Rattle.page_redo.specs.Growing.{AreAllRedone};
 ghost use Rattle.ivf_pages.specs.Standing.{Stands};
 ghost use Rattle.ivf_pages.specs.Effects.{RedoIsEffect};
 ghost use Rattle.ivf_pages.specs.Following.{IsNextBehind, Follows};

@@ -12,10 +12,9 @@ ghost use Rattle.ivf_pages.specs.Walking.{all_rows, AreMarked, AreRowsFrom, AreA
 use crate::list_blocks::lists_end;
 use crate::marks::{Mark, is_in_one};
 use bit_code::Bits;
-use graph_pages::GraphFault;
 use index_sizes::MOST_BLOCKS;
 use page_bytes::Page;
-use page_redo::holds_entries;
+use page_redo::{GraphFault, holds_entries};
 use std::alloc::{AllocError, Global};
 use vec_names::{HeapId, Listed, Params};
 use vec_tuples::{TupleFault, read_entry};

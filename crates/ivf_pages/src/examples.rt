@@ -3,7 +3,7 @@
 ghost use Rattle.std.specs.Prelude.{◌≡◌, ◌++◌, ◌∷◌, [], Bool, List, Some, None, length};
 ghost use Rattle.vec_names.specs.declared.heap_id.HeapId.{HeapId};
 ghost use Rattle.vec_tuples.specs.Spelling.{centre_with, centre_bytes};
-ghost use Rattle.graph_pages.specs.Growing.{fresh_page};
+ghost use Rattle.page_redo.specs.Growing.{fresh_page};
 ghost use Rattle.ivf_pages.specs.Standing.{IsFirstBroken, Stands};
 ghost use Rattle.ivf_pages.specs.Examples.{small_params, meta_page, list_page, row_page, small_pages, small_index};
 

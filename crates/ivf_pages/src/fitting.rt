@@ -12,7 +12,7 @@ ghost use Rattle.page_bytes.specs.Content.{Content, IsPage};
 ghost use Rattle.vec_event.specs.Spelling.{IsWritable};
 ghost use Rattle.ivf_graph.specs.declared.graph.IvfGraph.{IvfGraph};
 ghost use Rattle.ivf_graph.specs.Rules.{IsEventAllowed};
-ghost use Rattle.graph_pages.specs.Fitting.{FitsEach};
+ghost use Rattle.page_redo.specs.Fitting.{FitsEach};
 ghost use Rattle.ivf_pages.specs.Standing.{Stands};
 ghost use Rattle.ivf_pages.specs.Following.{Follows};
 

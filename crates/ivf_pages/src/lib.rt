@@ -27,6 +27,7 @@ pub use examples::law_examples;
 pub use fitting::law_allowed;
 pub use following::follows;
 pub use law::law_standing;
+pub use page_redo::GraphFault;
 pub use replaying::{law_legal_replay, law_replay};
 pub use room::law_room;
 pub use standing::ivf_of;

@@ -9,7 +9,7 @@ ghost use Rattle.ivf_graph.specs.declared.graph.IvfGraph.{IvfGraph};
 ghost use Rattle.ivf_graph.specs.Effect.{after as after_acts};
 ghost use Rattle.ivf_graph.specs.Legal.{IsLegal};
 ghost use Rattle.ivf_pages.specs.Standing.{Stands};
-ghost use Rattle.graph_pages.specs.Replaying.{logged, Replayed};
+ghost use Rattle.page_redo.specs.Replaying.{logged, Replayed};
 ghost use Rattle.ivf_pages.specs.Replaying.{effects, FollowInTurn};
 
 use index_sizes::MOST_BLOCKS;

@@ -5,10 +5,9 @@ use crate::{
     law_legal_replay, law_pages, law_redo, law_replay, law_room, law_root, law_standing,
 };
 use bit_code::{Bits, read_bits};
-use graph_pages::GraphFault;
 use ivf_graph::IvfList;
 use page_bytes::{Page, PageKind};
-use page_redo::redo;
+use page_redo::{GraphFault, redo};
 use std::alloc::Global;
 use std::test::*;
 use vec_history::Event;

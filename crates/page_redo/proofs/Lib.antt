@@ -6,3 +6,12 @@ pub mod Elsewhere
 pub mod Others
 pub mod Pairs
 pub mod Putting
+pub mod Given
+pub mod SpelledBytes
+pub mod FreshBehind
+pub mod RedoneOnce
+pub mod TwoBlocks
+pub mod OneFits
+pub mod KeptPages
+pub mod RedoneThere
+pub mod ReplayedOnce

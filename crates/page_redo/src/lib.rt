@@ -1,4 +1,4 @@
-//! Redo of one page: what an event does to the page that it touches.
+//! Redo: what an event does to a page that it touches, and, in specs/, to all pages of an index.
 //!
 //! An event makes one change at each place that it names: it changes one tuple of a page, adds one, drops some or links
 //! the page to another, and it needs a page that allows this. Live changes, recovery and standbys change pages through
@@ -7,6 +7,7 @@
 
 mod events;
 mod fault;
+mod graph_fault;
 mod head_changes;
 mod in_place;
 mod items;
@@ -19,6 +20,7 @@ mod two_places;
 
 pub use events::redo;
 pub use fault::RedoFault;
+pub use graph_fault::GraphFault;
 pub use items::{LinksHead, centre_head_at, head_of, links_head_of, meta_at};
 pub use law::{law_elsewhere, law_others};
 pub use list_pages::{list_block, list_offset};

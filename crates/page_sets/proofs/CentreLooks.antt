@@ -24,7 +24,7 @@ use Rattle.ivf_graph.specs.Looks.Look.{AtCentres}
 use Rattle.ivf_graph.specs.Looks.Answer.{OfCentres}
 use Rattle.page_redo.specs.PageTuples.{in_whole, centre_at}
 use Rattle.page_redo.specs.PageChanges.{list_block, list_offset}
-use Rattle.graph_pages.proofs.Given.{map_is}
+use Rattle.page_redo.proofs.Given.{map_is}
 use Rattle.ivf_pages.specs.Standing.{lists_end, is_among, centre_in, chain_from, has_aim, part_in, list_with, IsListPage, Stands}
 use Rattle.ivf_pages.proofs.Root.{in_range, some_a_page}
 use Rattle.ivf_pages.proofs.StandingLaws.{of_kind}

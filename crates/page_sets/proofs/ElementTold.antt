@@ -14,7 +14,7 @@ use Rattle.vec_tuples.specs.Spelling.{IsElement, HasValue, OfElement, OfCentre, 
 use Rattle.vec_tuples.specs.Reading.{element}
 use Rattle.page_redo.specs.PageTuples.{in_whole}
 use Rattle.graph_search.specs.Reads.{Answer, Gone, OfNode, is_version}
-use Rattle.graph_pages.proofs.Given.{map_is}
+use Rattle.page_redo.proofs.Given.{map_is}
 use Rattle.page_sets.specs.Telling.{element_answer, slots_answer}
 
 -- ---- the value

@@ -21,7 +21,7 @@ use Rattle.page_redo.specs.PageTuples.{in_whole, read_at, links_head}
 use Rattle.page_redo.specs.declared.items.LinksHead.{LinksHead}
 use Rattle.graph_search.specs.Reads.{Gone, OfList, node_answer, list_answer}
 use Rattle.graph_pages.specs.Standing.{read_in, element_in, links_in, node_with as made_of, node_in, Stands}
-use Rattle.graph_pages.proofs.Given.{map_is}
+use Rattle.page_redo.proofs.Given.{map_is}
 use Rattle.graph_pages.proofs.RoleFits.{node_there, list_alike}
 use Rattle.graph_pages.proofs.FollowLaws.{node_of}
 use Rattle.page_sets.specs.Telling.{element_answer, slots_answer, read_on}

@@ -7,8 +7,8 @@ use Rattle.page_bytes.specs.declared.kind.PageKind.{PageKind}
 use Rattle.page_bytes.specs.Content.{Content}
 use Rattle.page_redo.specs.declared.fault.RedoFault.{RedoFault}
 use Rattle.page_redo.specs.Redo.{touched}
-use Rattle.graph_pages.specs.Growing.{fresh_page, new_kind, blocks_after, extended}
-use Rattle.graph_pages.specs.Fitting.{FitsEach}
+use Rattle.page_redo.specs.Growing.{fresh_page, new_kind, blocks_after, extended}
+use Rattle.page_redo.specs.Fitting.{FitsEach}
 use Rattle.page_sets.specs.Sets.{PageMap, IsPartOf}
 use Rattle.page_sets.specs.declared.doing.Touched.{Touched}
 use Rattle.page_sets.specs.Committing.{HasTouched, IsCommitted, IsOf, AreThese, HasThese, FitThese, IsRedoneSet, IsExtended}

@@ -4,7 +4,7 @@ use Rattle.vec_names.specs.declared.params.Params.{Params}
 use Rattle.vec_history.specs.declared.event.Event.{Event}
 use Rattle.page_bytes.specs.Content.{Content}
 use Rattle.page_redo.specs.Redo.{redone, touched}
-use Rattle.graph_pages.specs.Growing.{AreAllRedone}
+use Rattle.page_redo.specs.Growing.{AreAllRedone}
 use Rattle.page_sets.specs.Sets.{PageMap, IsPartOf, HasPages}
 use Rattle.page_sets.specs.declared.doing.Touched.{Touched}
 

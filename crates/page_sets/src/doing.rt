@@ -5,8 +5,8 @@ ghost use Rattle.vec_names.specs.Params.{IsInRange};
 ghost use Rattle.vec_history.specs.Settling.{is_lasting};
 ghost use Rattle.page_bytes.specs.Content.{Content};
 ghost use Rattle.page_redo.specs.Redo.{touched};
-ghost use Rattle.graph_pages.specs.Growing.{blocks_after, new_kind, fresh_page};
-ghost use Rattle.graph_pages.specs.Fitting.{FitsEach};
+ghost use Rattle.page_redo.specs.Growing.{blocks_after, new_kind, fresh_page};
+ghost use Rattle.page_redo.specs.Fitting.{FitsEach};
 ghost use Rattle.page_sets.specs.Sets.{IsPartOf};
 ghost use Rattle.page_sets.specs.Committing.{HasTouched, IsCommitted, AreThese, HasThese, FitThese, IsRedoneSet, IsExtended};
 

@@ -3,7 +3,7 @@
 ghost use Rattle.std.specs.Prelude.{◌≡◌, ◌≢◌, ◌≤◌, ◌+◌, ℕ, None, OnOk, IfErr};
 ghost use Rattle.std.specs.Option.{option_copied};
 ghost use Rattle.vec_names.specs.Params.{IsInRange};
-ghost use Rattle.graph_pages.specs.Growing.{fresh_page};
+ghost use Rattle.page_redo.specs.Growing.{fresh_page};
 ghost use Rattle.vec_steps.specs.declared.fault.StepFault.TheVariants.{Memory};
 ghost use Rattle.page_sets.specs.Sets.{PageMap, IsRedone, IsChangedTo};
 

@@ -17,7 +17,7 @@ use Rattle.vec_graph.specs.declared.graph.Graph.{Graph}
 use Rattle.vec_graph.specs.Places.{fits_one_page, fresh_place, fresh_at, new_blocks, new_place, place_on}
 use Rattle.page_bytes.specs.declared.kind.PageKind.TheVariants.{Hnsw}
 use Rattle.graph_pages.specs.Standing.{Stands}
-use Rattle.graph_pages.specs.Growing.{fresh_page}
+use Rattle.page_redo.specs.Growing.{fresh_page}
 use Rattle.graph_search.specs.Deeds.{join_reply, place_reply, slot_in}
 use Rattle.graph_search.specs.Deeds as deed
 use Rattle.ivf_graph.specs.declared.graph.IvfGraph.{IvfGraph}

@@ -8,7 +8,7 @@ use Rattle.page_bytes.specs.Content.{Content, IsPage, free_of, taken as taken_of
 use Rattle.ivf_graph.specs.declared.graph.IvfGraph.{IvfGraph}
 use Rattle.ivf_graph.specs.Graph.{Row, rows_on, row_need, taken}
 use Rattle.ivf_graph.specs.Looks.{next_on}
-use Rattle.graph_pages.proofs.Given.{got_from_all}
+use Rattle.page_redo.proofs.Given.{got_from_all}
 use Rattle.ivf_pages.specs.Standing.{next_of, Stands}
 use Rattle.ivf_pages.proofs.Root.{in_range, entries_behind}
 use Rattle.ivf_pages.proofs.RowRoom.{taken_is}

@@ -19,7 +19,7 @@ use Rattle.vec_graph.specs.Graph.{node_at}
 use Rattle.vec_graph.specs.Places.{IsOnBlocks, place_on, new_place, new_blocks}
 use Rattle.graph_search.specs.Deeds.{Reply, is_stale, place_reply, put_event, asked, PutsOn, PutsNew}
 use Rattle.graph_search.specs.Deeds as deed
-use Rattle.graph_pages.specs.Growing.{blocks_after}
+use Rattle.page_redo.specs.Growing.{blocks_after}
 use Rattle.ivf_graph.specs.declared.graph.IvfGraph.{IvfGraph}
 use Rattle.ivf_graph.specs.Looks.{next_on}
 use Rattle.vec_steps.specs.declared.ask.NewNode.{NewNode}

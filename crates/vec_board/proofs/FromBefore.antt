@@ -17,7 +17,7 @@ use Rattle.ivf_graph.specs.Rules as lists
 use Rattle.ivf_graph.specs.Effect.{after as lists_after}
 use Rattle.vec_board.specs.Keeping.{one_if_ends}
 use Rattle.page_bytes.specs.Content.{Content}
-use Rattle.graph_pages.specs.Growing.{blocks_after}
+use Rattle.page_redo.specs.Growing.{blocks_after}
 use Rattle.page_log.specs.Going.{Unsettled}
 use Rattle.page_sets.specs.Sets.{PageMap}
 use Rattle.page_sets.specs.Committing.{HasTouched}

@@ -7,7 +7,7 @@ use Rattle.vec_history.specs.Settling.{is_lasting}
 use Rattle.vec_event.specs.Spelling.{IsWritable}
 use Rattle.page_bytes.specs.Content.{Content}
 use Rattle.page_redo.specs.Redo.{touched}
-use Rattle.graph_pages.specs.Growing.{blocks_after}
+use Rattle.page_redo.specs.Growing.{blocks_after}
 use Rattle.page_sets.specs.Sets.{PageMap, HasPages}
 use Rattle.page_sets.specs.Committing.{HasTouched, IsCommitted}
 use Rattle.vec_board.specs.Acting.{IsSameSet, AreMade}

@@ -22,7 +22,7 @@ use Rattle.vec_graph.proofs.Shaping.{on_blocks_of}
 use Rattle.graph_law.specs.Counting.{one_if_none, doomed_count, added_at, added, ceased}
 use Rattle.graph_law.proofs.DoomedCount.{counted}
 use Rattle.page_bytes.specs.Content.{Content}
-use Rattle.graph_pages.specs.Growing.{blocks_after, new_kind, fresh_page}
+use Rattle.page_redo.specs.Growing.{blocks_after, new_kind, fresh_page}
 use Rattle.page_sets.specs.Sets.{PageMap}
 use Rattle.page_sets.proofs.Extended.{ext_longer}
 use Rattle.vec_steps.specs.Index.{Index, OfNodes, OfLists, IsShaped, IsLegal, IsOfParams}

@@ -9,8 +9,8 @@ use Rattle.vec_history.specs.Settling.{is_lasting}
 use Rattle.history_tables.specs.Rooms.{room_in_all, spent}
 use Rattle.history_tables.specs.Telling.{Tells, IsToldEnd}
 use Rattle.page_bytes.specs.Content.{Content}
-use Rattle.graph_pages.specs.Growing.{blocks_after}
-use Rattle.graph_pages.specs.Fitting.{FitsEach}
+use Rattle.page_redo.specs.Growing.{blocks_after}
+use Rattle.page_redo.specs.Fitting.{FitsEach}
 use Rattle.page_sets.specs.Sets.{PageMap}
 use Rattle.page_sets.specs.Committing.{HasTouched, IsCommitted}
 use Rattle.page_log.specs.declared.limits.TheConstants.{MOST_USED}

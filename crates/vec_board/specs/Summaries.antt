@@ -7,7 +7,7 @@ use Rattle.vec_graph.specs.declared.node.Node.{Node}
 use Rattle.vec_graph.specs.declared.graph.Graph.{Graph}
 use Rattle.vec_graph.specs.Graph.{node_at}
 use Rattle.graph_law.specs.Counting.{doomed_count}
-use Rattle.graph_pages.specs.Growing.{blocks_after}
+use Rattle.page_redo.specs.Growing.{blocks_after}
 use Rattle.vec_steps.specs.Index.{Index, OfNodes, OfLists}
 use Rattle.vec_board.specs.declared.summary.Summary.{Summary}
 

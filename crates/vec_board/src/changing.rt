@@ -3,8 +3,8 @@
 ghost use Rattle.std.specs.Prelude.{◌≡◌, ◌+◌, ◌≤◌, ◌<◌, ◌^◌, ℕ, List, true, IsOk, OnOk, IfErr, length};
 ghost use Rattle.vec_history.specs.Settling.{is_lasting};
 ghost use Rattle.page_bytes.specs.Content.{Content};
-ghost use Rattle.graph_pages.specs.Growing.{blocks_after};
-ghost use Rattle.graph_pages.specs.Fitting.{FitsEach};
+ghost use Rattle.page_redo.specs.Growing.{blocks_after};
+ghost use Rattle.page_redo.specs.Fitting.{FitsEach};
 ghost use Rattle.page_sets.specs.Committing.{HasTouched, IsCommitted};
 ghost use Rattle.vec_steps.specs.declared.fault.StepFault.TheVariants.{Memory};
 ghost use Rattle.vec_board.specs.Acting.{IsTaken, MayChange, IsChangeCause, IsChangeFault, IsSameSet, AreMade};

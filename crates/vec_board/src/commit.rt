@@ -6,7 +6,7 @@ ghost use Rattle.vec_event.specs.Spelling.{spelling, IsWritable};
 ghost use Rattle.history_tables.specs.Telling.{IsToldEnd};
 ghost use Rattle.history_tables.specs.Rooms.{room_in_all, spent};
 ghost use Rattle.page_bytes.specs.Content.{Content};
-ghost use Rattle.graph_pages.specs.Growing.{blocks_after};
+ghost use Rattle.page_redo.specs.Growing.{blocks_after};
 ghost use Rattle.page_log.specs.declared.limits.TheConstants.{MOST_USED};
 ghost use Rattle.page_log.specs.Parts.{newer_of, unsettled};
 ghost use Rattle.vec_steps.specs.declared.fault.StepFault.TheVariants.{Memory};

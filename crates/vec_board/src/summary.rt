@@ -2,7 +2,7 @@
 
 ghost use Rattle.std.specs.Prelude.{◌≡◌, true, ◌+◌, ◌<◌, ◌≤◌, ◌^◌, ◌==◌, if◌then◌else◌};
 ghost use Rattle.vec_history.specs.Settling.{is_lasting};
-ghost use Rattle.graph_pages.specs.Growing.{blocks_after};
+ghost use Rattle.page_redo.specs.Growing.{blocks_after};
 ghost use Rattle.vec_board.specs.Summaries.{summary_after};
 
 use page_sets::blocks_after;

@@ -1,4 +1,4 @@
-use Rattle.graph_pages.proofs.RedoneOnce.{redone_once}
+use Rattle.page_redo.proofs.RedoneOnce.{redone_once}
 use Rattle.graph_pages.proofs.effects.law_once.Goals as goal
 
 pub returns : goal.returns

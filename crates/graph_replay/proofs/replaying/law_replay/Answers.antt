@@ -1,6 +1,6 @@
 use Rattle.std.proofs.Common.{refl}
 use Rattle.graph_pages.specs.Effects.{format_in}
-use Rattle.graph_pages.proofs.ReplayedOnce.{replay_once}
+use Rattle.page_redo.proofs.ReplayedOnce.{replay_once}
 use Rattle.graph_replay.proofs.Replays.{replay_there, replay_effect}
 use Rattle.graph_replay.proofs.replaying.law_replay.Goals as goal
 

@@ -1,7 +1,7 @@
 use Rattle.std.proofs.Common.{subst, []}
 use Rattle.ivf_graph.specs.declared.graph.IvfGraph.{IvfGraph}
 use Rattle.ivf_pages.specs.Standing.{Stands}
-use Rattle.graph_pages.specs.Replaying.{logged}
+use Rattle.page_redo.specs.Replaying.{logged}
 use Rattle.ivf_pages.proofs.Replays.{replay_stands, logged_effect, legal_follow}
 use Rattle.ivf_pages.proofs.LegalReplay.{replay_there}
 use Rattle.ivf_pages.proofs.replaying.law_legal_replay.Goals as goal

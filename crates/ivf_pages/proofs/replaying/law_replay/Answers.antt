@@ -1,4 +1,4 @@
-use Rattle.graph_pages.proofs.ReplayedOnce.{replay_once}
+use Rattle.page_redo.proofs.ReplayedOnce.{replay_once}
 use Rattle.ivf_pages.proofs.Replays.{replay_stands}
 use Rattle.ivf_pages.proofs.replaying.law_replay.Goals as goal
 

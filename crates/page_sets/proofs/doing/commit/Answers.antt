@@ -1,5 +1,5 @@
 use Rattle.std.proofs.Common.{◌≡◌, ◌≤◌, ◌<◌, ◌^◌, ℕ, length, sym, ap, subst, ◌∙◌, arith}
-use Rattle.graph_pages.specs.Growing.{blocks_after}
+use Rattle.page_redo.specs.Growing.{blocks_after}
 use Rattle.page_sets.proofs.Extended.{none_new}
 use Rattle.page_sets.proofs.Whole.{as_extended, upward, never_fits, mid_part, mid_has, fits_these, whole_ok}
 use Rattle.page_sets.proofs.doing.commit.Goals as goal

@@ -1,5 +1,5 @@
 use Rattle.std.proofs.Common.{◌≡◌, ℕ, subst, arith}
-use Rattle.graph_pages.specs.Growing.{fresh_page}
+use Rattle.page_redo.specs.Growing.{fresh_page}
 use Rattle.page_sets.specs.Committing.{IsExtended}
 use Rattle.page_sets.proofs.doing.extend.Goals as goal
 

@@ -3,7 +3,7 @@ use Rattle.std.proofs.lemmas.Bool.{eq-eqb}
 use Rattle.vec_tuples.specs.Reading.{links}
 use Rattle.page_redo.specs.PageTuples.{in_whole, links_head}
 use Rattle.page_redo.specs.declared.items.LinksHead.{LinksHead}
-use Rattle.graph_pages.proofs.Given.{map_is}
+use Rattle.page_redo.proofs.Given.{map_is}
 use Rattle.page_sets.proofs.NodeLooks.{found_slots, part_within}
 use Rattle.page_sets.proofs.slots.tell_slots.Goals as goal
 

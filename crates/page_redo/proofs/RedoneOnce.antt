@@ -9,7 +9,7 @@ use Rattle.vec_history.specs.declared.event.Event.{Event}
 use Rattle.page_bytes.specs.declared.kind.PageKind.TheVariants.{Hnsw}
 use Rattle.page_bytes.specs.Content.{Content}
 use Rattle.page_redo.specs.Redo.{touched}
-use Rattle.graph_pages.specs.Effects.{AreRedone}
+use Rattle.page_redo.specs.Growing.{AreRedone}
 
 pub same_all : {X : Type 0} (xs ys : List X) → ((i : ℕ) → slice_get xs i ≡ slice_get ys i) → xs ≡ ys
 same_all [] [] same = refl

@@ -1,12 +1,19 @@
 -- Pages of an index that grows: the fresh pages that an event makes, and redo of an event on all blocks that it touches.
-use Rattle.std.specs.Prelude.{ℕ, ◌+◌, ◌-◌, max, List, [], ◌++◌, length, replicate, None}
+use Rattle.std.specs.Prelude.{◌≡◌, ℕ, ◌+◌, ◌-◌, max, List, [], ◌++◌, length, replicate, slice_get, Some, None, Contains}
 use Rattle.vec_names.specs.declared.params.Params.{Params}
 use Rattle.vec_history.specs.declared.event.Event.{Event}
 use Rattle.vec_history.specs.declared.event.Event.TheVariants.{Put, IvfGrow}
 use Rattle.page_bytes.specs.declared.kind.PageKind.{PageKind}
 use Rattle.page_bytes.specs.declared.kind.PageKind.TheVariants.{Hnsw, IvfEntries}
 use Rattle.page_bytes.specs.Content.{Content}
-use Rattle.graph_pages.specs.Effects.{AreRedone}
+use Rattle.page_redo.specs.Redo.{touched, redone}
+
+-- There are as many pages. Each one whose block the event touches became what redo makes of it, and each other one stayed.
+pub record AreRedone (params : Params) (wrap number : ℕ) (event : Event) (pages after : List Content) : Type 0 where
+  pub count : length after ≡ length pages
+  pub there : (block : ℕ) (page : Content) → Contains (touched event params) block → slice_get pages block ≡ Some page
+      → slice_get after block ≡ redone event params wrap number block page
+  pub elsewhere : (block : ℕ) → (Contains (touched event params) block → ⊥) → slice_get after block ≡ slice_get pages block
 
 -- a page without items, as it is made
 abbrev pub fresh_page : PageKind → Content

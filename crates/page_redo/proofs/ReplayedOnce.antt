@@ -3,9 +3,9 @@ use Rattle.std.proofs.Common.{◌≡◌, ℕ, List, [], ◌∷◌, sym, subst, �
 use Rattle.vec_names.specs.declared.params.Params.{Params}
 use Rattle.vec_history.specs.declared.event.Event.{Event}
 use Rattle.page_bytes.specs.Content.{Content}
-use Rattle.graph_pages.specs.Growing.{extended}
-use Rattle.graph_pages.specs.Replaying.{next_number, Replayed}
-use Rattle.graph_pages.proofs.RedoneOnce.{redone_once}
+use Rattle.page_redo.specs.Growing.{extended}
+use Rattle.page_redo.specs.Replaying.{next_number, Replayed}
+use Rattle.page_redo.proofs.RedoneOnce.{redone_once}
 
 pub replay_once : (params : Params) (wrap number : ℕ) (events : List Event) (pages after again : List Content)
     → Replayed params wrap number events pages after → Replayed params wrap number events pages again → after ≡ again

@@ -5,7 +5,7 @@ use Rattle.vec_history.specs.declared.event.Event.{Event}
 use Rattle.vec_history.specs.declared.event.Act.{Act}
 use Rattle.vec_history.specs.Settling.{is_lasting}
 use Rattle.page_bytes.specs.Content.{Content}
-use Rattle.graph_pages.specs.Growing.{AreAllRedone}
+use Rattle.page_redo.specs.Growing.{AreAllRedone}
 
 -- the number after this one, of 8 bytes
 abbrev pub next_number : ℕ → ℕ

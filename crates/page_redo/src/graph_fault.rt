@@ -1,7 +1,7 @@
 //! Why pages give no graph.
 
 ghost use Rattle.std.specs.Prelude.{◌≡◌};
-ghost use Rattle.graph_pages.specs.declared.graph_fault.GraphFault.TheVariants.{Memory};
+ghost use Rattle.page_redo.specs.declared.graph_fault.GraphFault.TheVariants.{Memory};
 
 use std::alloc::{AllocError, AllocFailed};
 use thiserror::Error;

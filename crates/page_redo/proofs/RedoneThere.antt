@@ -11,8 +11,8 @@ use Rattle.page_bytes.specs.Content.{Content}
 use Rattle.page_redo.specs.Redo.{touched, redone}
 use Rattle.page_redo.proofs.Others.{set_apart}
 use Rattle.page_redo.proofs.Putting.{set_here}
-use Rattle.graph_pages.specs.Fitting.{FitsEach}
-use Rattle.graph_pages.specs.Growing.{extended, AreAllRedone}
+use Rattle.page_redo.specs.Fitting.{FitsEach}
+use Rattle.page_redo.specs.Growing.{extended, AreAllRedone}
 
 -- a change of the pages of some blocks
 record IsEachChanged (change : ℕ → Content → Option Content) (blocks : List ℕ) (pages after : List Content) : Type 0 where
