@@ -11,7 +11,7 @@ use Rattle.std.proofs.lemmas.Grind.{flat_map-append}
 use Rattle.bit_dist.specs.Hits.{Hit, hit_cmp_total}
 use Rattle.list_values.specs.Ranking.{ranked}
 use Rattle.list_values.proofs.Ranks.{ranked_is}
-use Rattle.vec_run.specs.declared.command.Command.{Command}
+use Rattle.script_words.specs.declared.command.Command.{Command}
 use Rattle.vec_run.specs.Replies.{is_nearer, hit_with, hit_line, nearest}
 
 nearer_ranks : IsStrictWeakOrder is_nearer

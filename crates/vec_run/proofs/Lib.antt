@@ -1,9 +1,5 @@
 mod AnswerSteps
-mod Cutting
 mod Ending
-mod Forms
-mod LineCuts
 mod Moving
-mod OneReading
-mod Readings
-mod Spelling
+mod OneWord
+mod Sources

@@ -3,7 +3,7 @@ use Rattle.std.proofs.Common.{◌≡◌, refl, sym, ap, ap₂, ◌∙◌, subst,
 use Rattle.std.proofs.Math.Seq.{take-add}
 use Rattle.std.proofs.lemmas.List.{take-append-le, take_at, append-nil, drop-drop, drop_all}
 use Rattle.std.proofs.Math.Seq.{take-append-add}
-use Rattle.vec_run.specs.declared.command.Command.{Command}
+use Rattle.script_words.specs.declared.command.Command.{Command}
 use Rattle.vec_run.specs.Exact.{AppendsFront, TakesAtMost}
 use Rattle.vec_run.specs.Replies.{replies_of, replies_after, reply_at, reply_from}
 use Rattle.std.specs.Io.KnownBytes.{Appends, Consumes}

@@ -1,9 +1,10 @@
 -- What a run of `exact` does to its source and its sink.
 use Rattle.std.specs.Prelude.{ℕ, ◌≡◌, ◌⊎◌, ◌+◌, ◌^◌, ◌<◌, ◌≤◌, Bool, IsTrue, List, ◌++◌, length, take, Option, IfSome}
 use Rattle.std.specs.Io.KnownBytes.{Appends, Consumes, IsAtEnd}
-use Rattle.vec_run.specs.declared.command.Command.{Command}
-use Rattle.vec_run.specs.Grammar.{IsScript}
+use Rattle.script_words.specs.declared.command.Command.{Command}
+use Rattle.script_words.specs.Grammar.{IsScript}
 use Rattle.vec_run.specs.Replies.{replies_of}
+use Rattle.script_words.specs.declared.form.Form.TheVariants as form
 
 -- known bytes lose at most so many from their front
 abbrev pub TakesAtMost : ℕ → Option (List ℕ) → Option (List ℕ) → Type 0
@@ -31,9 +32,9 @@ pub record MovesFront (held held' : Option (List ℕ)) (gathered left : List ℕ
 -- The source was read to its end. Its bytes are a script, and what was written are the replies to its commands.
 abbrev pub Answers : Option (List ℕ) → Option (List ℕ) → Option (List ℕ) → Option (List ℕ) → Type 0
 Answers left left' held held' = IfSome left (λ input.
-    IsAtEnd left' × ((commands : List Command) × IsScript input commands × Appends held held' (replies_of commands)))
+    IsAtEnd left' × ((commands : List Command) × IsScript form.Exact input commands × Appends held held' (replies_of commands)))
 
 -- The source's bytes are a script, and what was written is a front of the replies to its commands.
 abbrev pub AnswersFront : Option (List ℕ) → Option (List ℕ) → Option (List ℕ) → Type 0
 AnswersFront left held held' = IfSome left (λ input.
-    (commands : List Command) × IsScript input commands × AppendsFront held held' (replies_of commands))
+    (commands : List Command) × IsScript form.Exact input commands × AppendsFront held held' (replies_of commands))

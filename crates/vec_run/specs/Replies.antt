@@ -2,32 +2,28 @@
 use Rattle.std.specs.Prelude.{ℕ, Bool, Option, Some, None, List, [], ◌∷◌, ◌++◌, length, take, drop, codes, decimal}
 use Rattle.std.specs.List.{filter_map, flat_map}
 use Rattle.std.specs.Ordering.{is_lt}
-use Rattle.vec_names.specs.declared.heap_id.HeapId.{HeapId}
 use Rattle.bit_dist.specs.Distances.{hamming_of}
 use Rattle.bit_dist.specs.Hits.{Hit, hit_cmp}
 use Rattle.list_values.specs.Ranking.{ranked}
-use Rattle.vec_run.specs.declared.command.Command.{Command}
-use Rattle.vec_run.specs.declared.command.Command.TheVariants.{Row, Query}
+use Rattle.script_words.specs.Commands.{id_word}
+use Rattle.script_words.specs.declared.command.Command.{Command}
+use Rattle.script_words.specs.declared.command.Command.TheVariants.{Row, Query}
 
 abbrev pub is_nearer : Hit → Hit → Bool
 is_nearer a b = is_lt (hit_cmp a b)
 
--- the hit of a value with a row; a query is no row
+-- the hit of a value with a row; no other command is a row
 abbrev pub hit_with : List Bool → Command → Option Hit
-hit_with value (Row id bits) = Some (hamming_of bits value, id)
-hit_with value (Query bits) = None
+hit_with value (Row id bits word) = Some (hamming_of bits value, id)
+hit_with value _ = None
 
 -- the rows among the commands by (distance, id), equal ones in line order
 abbrev pub nearest : List Bool → List Command → List Hit
 nearest value above = ranked is_nearer (filter_map (hit_with value) above)
 
--- B/O
-abbrev pub id_text : HeapId → List ℕ
-id_text id = decimal id.block ++ 47 ∷ decimal id.off
-
 -- `hit ID DIST`
 abbrev pub hit_line : Hit → List ℕ
-hit_line hit = codes "hit " ++ id_text hit.1 ++ 32 ∷ decimal hit.0.num ++ 10 ∷ []
+hit_line hit = codes "hit " ++ id_word hit.1 ++ 32 ∷ decimal hit.0.num ++ 10 ∷ []
 
 -- `hits N`
 abbrev pub count_line : ℕ → List ℕ
@@ -39,8 +35,8 @@ hits_text hits = flat_map hit_line hits ++ count_line (length hits)
 
 -- what a command is answered, after the commands above it
 abbrev pub reply_of : List Command → Command → List ℕ
-reply_of above (Row id bits) = []
 reply_of above (Query bits) = hits_text (nearest bits above)
+reply_of above _ = []
 
 -- what is written for commands, after those above them
 abbrev pub replies_after : List Command → List Command → List ℕ

@@ -6,7 +6,8 @@ use Rattle.vec_run.specs.declared.end.End.TheVariants as end
 use Rattle.vec_run.specs.declared.top.Verb.{Verb}
 use Rattle.vec_run.specs.declared.top.Verb.TheVariants.{Exact}
 use Rattle.vec_run.specs.Exact.{Answers, AnswersFront}
-use Rattle.vec_run.specs.Grammar.{IsFirstOutside}
+use Rattle.script_words.specs.Grammar.{IsFirstOutside}
+use Rattle.script_words.specs.declared.form.Form.TheVariants as form
 
 -- the words name this verb
 abbrev pub IsVerb : List (String Global) → Verb → Type 0
@@ -26,7 +27,7 @@ WritesFront Exact left held held' = AnswersFront left held held'
 
 -- the line of this number, from 1, is the first of the source's bytes that is outside the verb's form
 abbrev pub IsRefusedAt : Verb → Option (List ℕ) → ℕ → Type 0
-IsRefusedAt Exact left line = IfSome left (λ input. IsFirstOutside input line)
+IsRefusedAt Exact left line = IfSome left (λ input. IsFirstOutside form.Exact input line)
 
 -- what a verb has read and written at each end; no end of a verb is that of words which name none
 abbrev pub IsEndOf : Verb → Option (List ℕ) → Option (List ℕ) → Option (List ℕ) → Option (List ℕ) → End → Type 0

@@ -3,20 +3,20 @@ ghost use Rattle.std.specs.Prelude.{ℕ, ◌≡◌, ◌+◌, ◌^◌, ◌<◌, �
 ghost use Rattle.std.specs.Io.KnownBytes.{Appends, IsAtEnd};
 ghost use Rattle.vec_outside.specs.Causes.{HasCause, Rose};
 ghost use Rattle.vec_run.specs.Exact.{AppendsFront, MovesFront, TakesAtMost};
-ghost use Rattle.vec_run.specs.Grammar.{AreEqual, IsScript, places_in};
+ghost use Rattle.script_words.specs.Grammar.{AreEqual, IsScript, places_in};
 ghost use Rattle.vec_run.specs.Refusals.{IsSourceRefusal};
 ghost use Rattle.vec_run.specs.Replies.{replies_of, reply_at};
 ghost use Rattle.vec_run.specs.Verbs.{IsEndOf};
 ghost use Rattle.vec_run.specs.declared.end.End.TheVariants as end;
 ghost use Rattle.vec_run.specs.declared.refusal.ReadRefusal.TheVariants as refusal;
 ghost use Rattle.vec_run.specs.declared.top.Verb.TheVariants.{Exact};
+ghost use Rattle.script_words.specs.declared.form.Form.TheVariants as form;
 
-use crate::command::Command;
 use crate::end::End;
 use crate::refusal::ReadRefusal;
 use crate::replies::write_answer;
-use crate::script::read_script;
 use crate::streams::{read_whole, write_whole};
+use script_words::{Command, Form, read_script};
 use std::alloc::{AllocError, Global};
 use vec_outside::{Outage, Sink, Source};
 
@@ -50,7 +50,7 @@ pub fn run_exact<S: Source, K: Sink>(alloc: Global, source: &mut S, sink: &mut K
 // The commands of the whole source.
 fn read_commands<S: Source>(alloc: Global, source: &mut S) -> Result<Vec<Command>, ReadRefusal>
     ensures ok { IfOk result (λ commands. IfSome (S.left source.old) (λ input.
-        IsAtEnd (S.left source.new) × IsScript input commands.items)) }
+        IsAtEnd (S.left source.new) × IsScript form.Exact input commands.items)) }
     ensures one_length { IfOk result (λ commands. AreEqual (map places_in commands.items)) }
     ensures refused { IfErr result (IsSourceRefusal (S.left source.old)) }
     ensures read { IfErr result (λ why. why ≡ refusal.Failed → Rose (S.count source.old) (S.count source.new)) }
@@ -58,7 +58,8 @@ fn read_commands<S: Source>(alloc: Global, source: &mut S) -> Result<Vec<Command
     ensures later { S.count source.old ≤ S.count source.new }
 {
     let bytes = read_whole(alloc, source)?;
-    read_script(alloc, &bytes)
+    let commands = read_script(alloc, &bytes, Form::Exact)?;
+    Ok(commands)
 }
 
 // The replies to all commands, gathered to large pieces.
@@ -88,8 +89,8 @@ fn answer(
     ensures { OnOk result (gathered.new.items ≡ gathered.old.items ++ reply_at commands.now at) }
 {
     match &commands[at] {
-        Command::Row { .. } => Ok(()),
         Command::Query { bits } => write_answer(alloc, &commands[..at], bits, gathered),
+        _ => Ok(()),
     }
 }
 

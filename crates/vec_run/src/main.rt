@@ -1,14 +1,10 @@
 //! A near-neighbour index over bit strings: reads a command script and writes its replies.
 #![tactic(auto)]
 
-mod command;
 mod end;
 mod exact;
-mod laws;
-mod line;
 mod refusal;
 mod replies;
-mod script;
 mod streams;
 #[cfg(test)]
 mod tests;

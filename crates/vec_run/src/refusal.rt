@@ -1,9 +1,8 @@
 // Why a source gives no script.
 ghost use Rattle.std.specs.Prelude.{◌≡◌};
-ghost use Rattle.vec_run.specs.Refusals.{refusal_of};
-ghost use Rattle.vec_run.specs.declared.refusal.ReadRefusal.TheVariants.{Memory};
+ghost use Rattle.vec_run.specs.Refusals.{refusal_of, script_refusal};
 
-use std::alloc::AllocFailed;
+use script_words::ScriptFault;
 use vec_outside::Outage;
 
 /// Why a source gives no script. `Outage` is the other error on the way of `exact`: why the replies
@@ -29,10 +28,13 @@ impl From<Outage> for ReadRefusal {
     }
 }
 
-impl<T: Drop> From<AllocFailed<T>> for ReadRefusal {
-    ghost from_gives = { λ _ e. e ≡ Memory };
+impl From<ScriptFault> for ReadRefusal {
+    ghost from_gives = { λ fault e. e ≡ script_refusal fault };
 
-    fn from(_: AllocFailed<T>) -> Self {
-        ReadRefusal::Memory
+    fn from(fault: ScriptFault) -> Self {
+        match fault {
+            ScriptFault::Memory => ReadRefusal::Memory,
+            ScriptFault::Line(line) => ReadRefusal::Line(line),
+        }
     }
 }

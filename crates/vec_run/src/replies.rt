@@ -1,13 +1,14 @@
 // The replies of `exact`.
 ghost use Rattle.std.specs.Prelude.{◌≡◌, [], ◌++◌, length, OnOk, IfOk};
 ghost use Rattle.std.specs.List.{All, cons_option};
-ghost use Rattle.vec_run.specs.Grammar.{places_in};
-ghost use Rattle.vec_run.specs.Replies.{count_line, hit_line, hit_with, hits_text, id_text, nearest};
+ghost use Rattle.script_words.specs.Grammar.{places_in};
+ghost use Rattle.script_words.specs.Commands.{id_word};
+ghost use Rattle.vec_run.specs.Replies.{count_line, hit_line, hit_with, hits_text, nearest};
 
-use crate::command::Command;
 use bit_code::Bits;
 use bit_dist::{Dist, distance};
 use itoa::{Buffer, Integer};
+use script_words::Command;
 use std::alloc::{AllocError, Global};
 use vec_names::{HeapId, Ops};
 
@@ -41,7 +42,7 @@ fn nearest_rows(
     Ok(hits)
 }
 
-// A row is a hit, and a query is none.
+// A row is a hit, and no other command is one.
 fn push_hit(
     command: &Command,
     value: &Bits,
@@ -51,11 +52,11 @@ fn push_hit(
     ensures { OnOk result (hits.new.items ≡ hits.old.items ++ cons_option (hit_with value.now command.now) []) }
 {
     match command {
-        Command::Row { id, bits } => {
+        Command::Row { id, bits, .. } => {
             hits.push((distance(Ops::Hamming, bits, value), *id))?;
             Ok(())
         }
-        Command::Query { .. } => Ok(()),
+        _ => Ok(()),
     }
 }
 
@@ -87,7 +88,7 @@ fn write_hit(dist: Dist, id: HeapId, into: &mut Vec<u8>) -> Result<(), AllocErro
 }
 
 fn write_id(id: HeapId, into: &mut Vec<u8>) -> Result<(), AllocError>
-    ensures { OnOk result (into.new.items ≡ into.old.items ++ id_text id) }
+    ensures { OnOk result (into.new.items ≡ into.old.items ++ id_word id) }
 {
     write_number(id.block, into)?;
     into.extend_from_slice(b"/")?;

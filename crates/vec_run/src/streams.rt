@@ -4,7 +4,7 @@ ghost use Rattle.std.specs.Io.KnownBytes.{Appends, Consumes, IsAtEnd};
 ghost use Rattle.vec_outside.specs.Causes.{HasCause};
 ghost use Rattle.vec_run.specs.Exact.{AppendsFront, ReadsMore, TakesAtMost};
 
-use crate::script::MOST_BYTES;
+use script_words::MOST_BYTES;
 use std::alloc::{AllocError, Global};
 use vec_outside::{Outage, Sink, Source};
 

@@ -2,11 +2,12 @@
 ghost use Rattle.std.specs.Prelude.{ℕ, ◌≡◌, ◌≢◌, ◌⊎◌, ◌+◌, ◌^◌, ◌≤◌, ◌↔◌, List, IsTrue, MatchOption, Some};
 ghost use Rattle.vec_outside.specs.Causes.{Rose};
 ghost use Rattle.vec_run.specs.Exact.{TakesAtMost};
-ghost use Rattle.vec_run.specs.Grammar.{IsFirstOutside, IsScript};
+ghost use Rattle.script_words.specs.Grammar.{IsFirstOutside, IsScript};
 ghost use Rattle.vec_run.specs.Verbs.{IsDone, IsRefusedAt, IsVerb, UsesNoDisk, WritesFront};
-ghost use Rattle.vec_run.specs.declared.command.Command.{Command};
+ghost use Rattle.script_words.specs.declared.command.Command.{Command};
 ghost use Rattle.vec_run.specs.declared.top.Verb.{Verb};
 ghost use Rattle.vec_run.specs.declared.top.Verb.TheVariants.{Exact};
+ghost use Rattle.script_words.specs.declared.form.Form.TheVariants as form;
 
 use crate::end::End;
 use crate::exact::run_exact;
@@ -80,7 +81,7 @@ pub fn run_alone<R: Threads + Sync, S: Source, K: Sink, D: Disks>(
     ensures line { (verb : Verb) → IsVerb words.now verb → result.status ≡ 3
         → IsRefusedAt verb (S.left source.old) result.line }
     ensures no_line { result.status ≢ 3 → result.line ≡ 0 }
-    ensures refused { IsVerb words.now Exact → (input : List ℕ) (line : ℕ) → S.left source.old ≡ Some input → IsFirstOutside input line
+    ensures refused { IsVerb words.now Exact → (input : List ℕ) (line : ℕ) → S.left source.old ≡ Some input → IsFirstOutside form.Exact input line
         → ¬ Rose (S.count source.old) (S.count source.new) → (result.status ≡ 3) ⊎ (result.status ≡ 1) }
 
     // 4 comes only where a read failed, and 5 only where a write did, after a front of what the verb writes.
@@ -104,7 +105,7 @@ pub fn run_alone<R: Threads + Sync, S: Source, K: Sink, D: Disks>(
 
     // `exact` answers a script, unless memory is wanting or a count rises.
     ensures complete { IsVerb words.now Exact → (input : List ℕ) (commands : List Command)
-        → S.left source.old ≡ Some input → IsScript input commands
+        → S.left source.old ≡ Some input → IsScript form.Exact input commands
         → ¬ Rose (S.count source.old) (S.count source.new) → ¬ Rose (K.count sink.old) (K.count sink.new)
         → (result.status ≡ 0) ⊎ (result.status ≡ 1) }
 {

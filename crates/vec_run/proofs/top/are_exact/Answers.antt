@@ -1,7 +1,7 @@
 use Rattle.std.proofs.Common.{◌∙◌, ap, List, ℕ}
 use Rattle.std.specs.Prelude.{nat_eq, codes}
 use Rattle.std.specs.Cmp.Lexicographic.{pointwise}
-use Rattle.vec_run.proofs.Spelling.{one_word}
+use Rattle.vec_run.proofs.OneWord.{one_word}
 use Rattle.vec_run.proofs.top.are_exact.Goals as goal
 
 pub returns-then-words-eq1 : goal.returns-then-words-eq1

@@ -1,0 +1,9 @@
+pub mod Cutting
+pub mod LineCuts
+pub mod WordCuts
+pub mod Spelling
+pub mod Readings
+pub mod Optional
+pub mod Outside
+pub mod OneCommand
+pub mod Forms

@@ -1,0 +1,27 @@
+//! The script: its lines and words, the commands that they spell, and the forms that have them.
+//!
+//! `read_script` reads the commands of a form, or names the first line that is outside it. The grammar stands in
+//! `specs/Commands.antt`, as the words of each command, and in `specs/Grammar.antt`, as the lines of a script.
+#![tactic(auto)]
+
+mod command;
+mod creating;
+mod fault;
+mod form;
+mod laws;
+mod line;
+mod numbers;
+mod options;
+mod rows;
+mod script;
+mod searching;
+mod words;
+
+pub use command::{Command, Further};
+pub use fault::ScriptFault;
+pub use form::Form;
+pub use laws::{apart, one_reading, one_refusal};
+pub use script::{MOST_BYTES, read_script};
+
+#[cfg(test)]
+mod tests;

@@ -1,5 +1,0 @@
-use Rattle.vec_run.proofs.Cutting.{cut_answer}
-use Rattle.vec_run.proofs.line.find_byte.Goals as goal
-
-pub returns : goal.returns
-returns c = cut_answer c.args.byte c.args.text.now c.memchr.result c.memchr.ensures
