@@ -1,5 +1,5 @@
 -- Which pages of entries break a rule, by their marks.
-use Rattle.std.proofs.Common.{◌≡◌, ◌⊎◌, ℕ, ◌&&◌, Bool, true, false, List, get_or, Option, Some, None, refl, sym, ap, ◌∙◌, arith, inl, inr}
+use Rattle.std.proofs.Common.{◌≡◌, ℕ, ◌&&◌, Bool, true, false, List, get_or, Option, Some, None, refl, sym, ap, ◌∙◌, arith}
 use Rattle.std.specs.Prelude.{slice_get}
 use Rattle.std.specs.List.{list_all, filter_map}
 use Rattle.std.specs.Option.{is_some}
@@ -12,16 +12,17 @@ use Rattle.page_redo.specs.PageTuples.{is_entries_page}
 use Rattle.page_redo.specs.PageChanges.{when}
 use Rattle.page_redo.proofs.Given.{when_is}
 use Rattle.ivf_pages.specs.declared.marks.Mark.{Mark}
-use Rattle.ivf_pages.specs.declared.marks.Mark.TheVariants.{Nowhere, Once, Wrongly}
+use Rattle.ivf_pages.specs.declared.marks.Mark.TheVariants.{Nowhere, Once, Short, Shared}
 use Rattle.ivf_pages.specs.Standing.{is_among, next_of, chain_in, ends_at, is_entry, row_in, rows_of, IsEntryPage}
-use Rattle.ivf_pages.specs.Walking.{is_in_one, all_rows, IsInOneOf, IsShared, IsStopped, IsSo, AreMarked}
+use Rattle.ivf_pages.specs.Walking.{is_in_one, all_rows, IsInOneOf, IsSo, AreMarked}
 use Rattle.ivf_pages.proofs.Ended.{ends_among}
 
 one_of : (o : Option Mark) → is_in_one o ≡ true → (l : ℕ) × (o ≡ Some (Once l))
 one_of None is = absurd cc
 one_of (Some Nowhere) is = absurd cc
 one_of (Some (Once l)) is = (l, refl)
-one_of (Some (Wrongly l)) is = absurd cc
+one_of (Some (Short l)) is = absurd cc
+one_of (Some Shared) is = absurd cc
 
 none_if : (o : Option ℕ) → is_some o ≡ false → o ≡ None
 none_if None is = refl
@@ -32,7 +33,7 @@ module _ (p : Params) (pages : List Content) (marks : List Mark) (marked : AreMa
   pub keeps_entry : is_entries_page c.kind ≡ true → is_in_one (slice_get marks block) ≡ true → list_all (is_entry p) c.items ≡ true → IsEntryPage p pages block c
   keeps_entry kind one entries =
       let m = one_of (slice_get marks block) one in
-      let s : IsInOneOf p pages p.lists block m.0 = marked.so block (Once m.0) m.1 in
+      let s : IsInOneOf p pages p.lists block m.0 false = marked.so block (Once m.0) m.1 in
       record {
         kind = kind;
         entries = entries;
@@ -41,22 +42,19 @@ module _ (p : Params) (pages : List Content) (marks : List Mark) (marked : AreMa
             let same : list ≡ m.0 = s.only list low (ends_among block (chain_in p pages list) at) in
             let here : ends_at block (chain_in p pages m.0) ≡ true = ap (λ (n : ℕ). ends_at block (chain_in p pages n)) (sym same) ∙ at in
             let none : is_some (next_of (slice_get pages block)) ≡ false =
-            ap (λ (t : Bool). t && is_some (next_of (slice_get pages block))) (sym here) ∙ s.goes_on in
+            ap (λ (t : Bool). t && is_some (next_of (slice_get pages block))) (sym here) ∙ s.is_short in
             sym (ap next_of there) ∙ none_if (next_of (slice_get pages block)) none;
       }
 
   so_of : IsEntryPage p pages block c → (m : Mark) → IsSo p pages p.lists block m → is_in_one (Some m) ≡ true
   so_of page Nowhere so = absurd (both_ways (is_among block (chain_in p pages page.in_one.list)) (so page.in_one.list page.in_one.is_list) page.in_one.within)
   so_of page (Once l) so = refl
-  so_of page (Wrongly l) so = by_case so.1
-    where
-      by_case : IsShared p pages p.lists block ⊎ IsStopped p pages p.lists block → is_in_one (Some (Wrongly l)) ≡ true
-      by_case (inl s) =
-          absurd (s.differ (page.in_one.only s.list s.low s.within ∙ sym (page.in_one.only s.other s.other_low s.other_within)))
-      by_case (inr s) =
-          let parts = and_parts (ends_at block (chain_in p pages s.list)) (is_some (next_of (slice_get pages block))) s.short in
-          let none : next_of (slice_get pages block) ≡ None = ap next_of there ∙ page.ends s.list s.low parts.0 in
-          let no : false ≡ true = ap is_some (sym none) ∙ parts.1 in absurd cc
+  so_of page (Short l) so =
+      let parts = and_parts (ends_at block (chain_in p pages l)) (is_some (next_of (slice_get pages block))) so.is_short in
+      let none : next_of (slice_get pages block) ≡ None = ap next_of there ∙ page.ends l so.low parts.0 in
+      let no : false ≡ true = ap is_some (sym none) ∙ parts.1 in absurd cc
+  so_of page Shared so =
+      absurd (so.differ (page.in_one.only so.list so.low so.within ∙ sym (page.in_one.only so.other so.other_low so.other_within)))
 
   pub in_one_of : IsEntryPage p pages block c → is_in_one (slice_get marks block) ≡ true
   in_one_of page =

@@ -23,7 +23,10 @@ pub mod SmallIndex
 pub mod LegalReplay
 pub mod RootKept
 pub mod MarkChanges
+pub mod LinkedPages
+pub mod Closed
 pub mod Walks
+pub mod Aims
 pub mod MarkedLists
 pub mod Judged
 pub mod TuplePages

@@ -7,8 +7,7 @@ use Rattle.std.proofs.lemmas.List.{length-set}
 use Rattle.page_redo.proofs.Others.{set_apart}
 use Rattle.page_redo.proofs.Putting.{set_here}
 use Rattle.ivf_pages.specs.declared.marks.Mark.{Mark}
-use Rattle.ivf_pages.specs.declared.marks.Mark.TheVariants.{Wrongly}
-use Rattle.ivf_pages.specs.Walking.{AreChanged, visited, visited_at, stopped_at}
+use Rattle.ivf_pages.specs.Walking.{AreChanged, visited, visited_at, shortened, shortened_at}
 
 -- one change after the other
 pub after_two : (f g h : ℕ → Mark → Mark) (a b c : List Mark) → AreChanged f a b → AreChanged g b c
@@ -61,14 +60,14 @@ visit_nothing list at a none =
     ap (λ (t : Bool). if t then visited list n else n)
     (ne_eqb at block (λ same. let both : None ≡ Some n = sym none ∙ ap (slice_get a) same ∙ is in absurd cc)))
 
-pub stop_there : (list at : ℕ) (a : List Mark) (m : Mark) → slice_get a at ≡ Some m → AreChanged (stopped_at list at) a (slice_set a at (Wrongly list))
-stop_there list at a m is =
-    one_changed (stopped_at list at) a at m (Wrongly list) is
-    (ap (λ (t : Bool). if t then Wrongly list else m) (eq-eqb at at refl))
-    (λ block n apart. ap (λ (t : Bool). if t then Wrongly list else n) (ne_eqb at block apart))
+pub shorten_there : (at : ℕ) (a : List Mark) (m : Mark) → slice_get a at ≡ Some m → AreChanged (shortened_at at) a (slice_set a at (shortened m))
+shorten_there at a m is =
+    one_changed (shortened_at at) a at m (shortened m) is
+    (ap (λ (t : Bool). if t then shortened m else m) (eq-eqb at at refl))
+    (λ block n apart. ap (λ (t : Bool). if t then shortened n else n) (ne_eqb at block apart))
 
-pub stop_nothing : (list at : ℕ) (a : List Mark) → slice_get a at ≡ None → AreChanged (stopped_at list at) a a
-stop_nothing list at a none =
-    unchanged (stopped_at list at) a (λ block n is.
-    ap (λ (t : Bool). if t then Wrongly list else n)
+pub shorten_nothing : (at : ℕ) (a : List Mark) → slice_get a at ≡ None → AreChanged (shortened_at at) a a
+shorten_nothing at a none =
+    unchanged (shortened_at at) a (λ block n is.
+    ap (λ (t : Bool). if t then shortened n else n)
     (ne_eqb at block (λ same. let both : None ≡ Some n = sym none ∙ ap (slice_get a) same ∙ is in absurd cc)))

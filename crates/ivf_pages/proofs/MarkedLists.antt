@@ -1,8 +1,7 @@
 -- What the marks say once the chains of so many lists were followed.
-use Rattle.std.proofs.Common.{◌≡◌, ◌⊎◌, ℕ, zero, suc, ◌+◌, ◌<◌, Bool, true, false, List, [], ◌∷◌, ◌++◌, length, replicate, get_or, drop, Option, Some, None, refl, sym, ap, subst, ◌∙◌, arith, inl, inr}
+use Rattle.std.proofs.Common.{◌≡◌, ℕ, zero, suc, ◌+◌, ◌<◌, Bool, true, false, List, [], ◌∷◌, ◌++◌, length, replicate, get_or, drop, Option, Some, None, refl, sym, ap, subst, ◌∙◌, arith, inl, inr}
 use Rattle.std.specs.Prelude.{slice_get}
-use Rattle.std.specs.Option.{option_map, is_some}
-use Rattle.std.proofs.lemmas.Bool.{and_parts, both_ways, cases_lt, eq-eqb, or_left, or_right}
+use Rattle.std.proofs.lemmas.Bool.{both_ways, cases_lt, or_left, or_right}
 use Rattle.std.proofs.lemmas.List.{length-replicate, append_assoc, append-nil, drop_more, drop_all}
 use Rattle.std.proofs.lemmas.Option.{slice_get_within, slice_get-get_or, get_or_from_slice_get, same_Some}
 use Rattle.vec_names.specs.declared.params.Params.{Params}
@@ -10,12 +9,11 @@ use Rattle.page_bytes.specs.Content.{Content}
 use Rattle.vec_tuples.specs.declared.centre.CentreTuple.{CentreTuple}
 use Rattle.page_redo.proofs.Given.{map_is}
 use Rattle.ivf_pages.specs.declared.marks.Mark.{Mark}
-use Rattle.ivf_pages.specs.declared.marks.Mark.TheVariants.{Nowhere, Once, Wrongly}
-use Rattle.ivf_pages.specs.Standing.{is_among, next_of, centre_in, chain_from, chain_of, chain_in, ends_at, has_aim}
-use Rattle.ivf_pages.specs.Walking.{is_last, is_met, stops_short, marked, marked_by, AreChanged, IsBelow, AreBelow, IsShared, IsStopped, IsSo, AreMarked, AreFirstTuples, is_in_some, chains_of, AreChainsApart, IsNew}
+use Rattle.ivf_pages.specs.declared.marks.Mark.TheVariants.{Nowhere, Once, Short, Shared}
+use Rattle.ivf_pages.specs.Standing.{is_among, has_entries, next_of, centre_in, chain_from, chain_of, chain_in, has_aim}
+use Rattle.ivf_pages.specs.Walking.{is_passed, is_shared, stops_short, marked, marked_by, AreChanged, IsBelow, AreBelow, AreClosed, IsInOneOf, IsShared, IsSo, AreMarked, AreFirstTuples, is_in_some, chains_of, AreChainsApart, IsNew}
 use Rattle.ivf_pages.proofs.Chains.{among_chain, entries_there}
-use Rattle.ivf_pages.proofs.Ended.{ends_among}
-use Rattle.ivf_pages.proofs.Walks.{last_is}
+use Rattle.ivf_pages.proofs.Closed.{closed_chain}
 
 -- ---- before all lists
 
@@ -38,13 +36,14 @@ module _ (p : Params) (pages : List Content) (k : ℕ) where
   so_below : (block : ℕ) (m : Mark) → IsSo p pages k block m → IsBelow k m
   so_below block Nowhere so = tt
   so_below block (Once l) so = so.low
-  so_below block (Wrongly l) so = so.0
+  so_below block (Short l) so = so.low
+  so_below block Shared so = tt
 
   pub below : (marks : List Mark) → AreMarked p pages k marks → AreBelow k marks
   below marks marked block m is = so_below block m (marked.so block m is)
 
-  lifted : (block : ℕ) → IsShared p pages k block ⊎ IsStopped p pages k block → IsShared p pages (k + 1) block ⊎ IsStopped p pages (k + 1) block
-  lifted block (inl s) = inl (record {
+  lifted : (block : ℕ) → IsShared p pages k block → IsShared p pages (k + 1) block
+  lifted block s = record {
     list = s.list;
     low = omega (arith, s.low);
     within = s.within;
@@ -52,8 +51,7 @@ module _ (p : Params) (pages : List Content) (k : ℕ) where
     other_low = omega (arith, s.other_low);
     other_within = s.other_within;
     differ = s.differ;
-  })
-  lifted block (inr s) = inr (record { list = s.list; low = omega (arith, s.low); short = s.short })
+  }
 
   -- the list of this number, or one below it
   by_list : (P : ℕ → Type 0) (list : ℕ) → list < k + 1 → (list < k → P list) → P k → P list
@@ -62,38 +60,54 @@ module _ (p : Params) (pages : List Content) (k : ℕ) where
     | inr h ↦ let same : k ≡ list = omega (arith, h, low) in subst P same here
   ]
 
-  next : (block : ℕ) (within short : Bool) → is_among block (chain_in p pages k) ≡ within → stops_short pages block (chain_in p pages k) ≡ short
-      → (m : Mark) → IsSo p pages k block m → IsSo p pages (k + 1) block (marked k within short m)
-  next block within true a s m so = (omega arith, inr (record { list = k; low = omega arith; short = s }))
-  next block true false a s Nowhere so = record {
+  -- the first chain that comes by the block
+  alone : (block : ℕ) (short : Bool) → ((list : ℕ) → list < k → is_among block (chain_in p pages list) ≡ false) → is_among block (chain_in p pages k) ≡ true
+      → stops_short pages block (chain_in p pages k) ≡ short → IsInOneOf p pages (k + 1) block k short
+  alone block short none a s = record {
     low = omega arith;
     within = a;
     only = λ other low is. by_list (λ n. is_among block (chain_in p pages n) ≡ true → n ≡ k) other low
-        (λ h is. absurd (both_ways (is_among block (chain_in p pages other)) (so other h) is)) (λ is. refl) is;
-    goes_on = s;
+        (λ h is. absurd (both_ways (is_among block (chain_in p pages other)) (none other h) is)) (λ is. refl) is;
+    is_short = s;
   }
-  next block true false a s (Once l) so = (
-    omega arith,
-    inl (record {
-      list = l;
-      low = omega (arith, so.low);
-      within = so.within;
-      other = k;
-      other_low = omega arith;
-      other_within = a;
-      differ = λ e. absurd (omega (arith, e, so.low));
-    }),
-  )
-  next block true false a s (Wrongly l) so = (omega arith, lifted block so.1)
-  next block false false a s Nowhere so = λ list low. by_list (λ n. is_among block (chain_in p pages n) ≡ false) list low (λ h. so list h) a
-  next block false false a s (Once l) so = record {
+
+  -- one more comes by a block that one came by
+  shared : (block l : ℕ) (short : Bool) → IsInOneOf p pages k block l short → is_among block (chain_in p pages k) ≡ true → IsShared p pages (k + 1) block
+  shared block l short so a = record {
+    list = l;
+    low = omega (arith, so.low);
+    within = so.within;
+    other = k;
+    other_low = omega arith;
+    other_within = a;
+    differ = λ e. absurd (omega (arith, e, so.low));
+  }
+
+  -- one more does not come by
+  still_alone : (block l : ℕ) (short : Bool) → IsInOneOf p pages k block l short → is_among block (chain_in p pages k) ≡ false
+      → IsInOneOf p pages (k + 1) block l short
+  still_alone block l short so a = record {
     low = omega (arith, so.low);
     within = so.within;
     only = λ other low is. by_list (λ n. is_among block (chain_in p pages n) ≡ true → n ≡ l) other low
         (λ h is. so.only other h is) (λ is. absurd (both_ways (is_among block (chain_in p pages k)) a is)) is;
-    goes_on = so.goes_on;
+    is_short = so.is_short;
   }
-  next block false false a s (Wrongly l) so = (omega (arith, so.0), lifted block so.1)
+
+  next : (block : ℕ) (within short : Bool) → is_among block (chain_in p pages k) ≡ within → stops_short pages block (chain_in p pages k) ≡ short
+      → (m : Mark) → IsSo p pages k block m → IsSo p pages (k + 1) block (marked k within short m)
+  next block true true a s Nowhere so = alone block true so a s
+  next block true false a s Nowhere so = alone block false so a s
+  next block true true a s (Once l) so = shared block l false so a
+  next block true false a s (Once l) so = shared block l false so a
+  next block true true a s (Short l) so = shared block l true so a
+  next block true false a s (Short l) so = shared block l true so a
+  next block true true a s Shared so = lifted block so
+  next block true false a s Shared so = lifted block so
+  next block false short a s Nowhere so = λ list low. by_list (λ n. is_among block (chain_in p pages n) ≡ false) list low (λ h. so list h) a
+  next block false short a s (Once l) so = still_alone block l false so a
+  next block false short a s (Short l) so = still_alone block l true so a
+  next block false short a s Shared so = lifted block so
 
   pub one_list : (before after : List Mark) → AreMarked p pages k before → AreChanged (marked_by pages k (chain_in p pages k)) before after
       → AreMarked p pages (k + 1) after
@@ -105,38 +119,72 @@ module _ (p : Params) (pages : List Content) (k : ℕ) where
         (next block (is_among block (chain_in p pages k)) (stops_short pages block (chain_in p pages k)) refl refl b.0 (were.so block b.0 b.1));
   }
 
--- ---- the aim
+-- ---- the marks of the next blocks
 
-mark_last : (list : ℕ) (within short : Bool) (m : Mark) → IsBelow list m → (short ≡ true → within ≡ true) → is_last list (marked list within short m) ≡ within
-mark_last list within true m below both = eq-eqb list list refl ∙ sym (both refl)
-mark_last list within false m below both = last_is list within m below
+module _ (p : Params) (pages : List Content) (k : ℕ) (marks : List Mark) (are : AreMarked p pages k marks) where
+  -- the chain that came by goes on to the next block
+  goes_on : (block next list : ℕ) → is_among block (chain_in p pages list) ≡ true → next_of (slice_get pages block) ≡ Some next
+      → has_entries (slice_get pages next) ≡ true → is_among next (chain_in p pages list) ≡ true
+  goes_on block next list within to has = closed_chain pages (centre_in p pages list) block next within to has
 
-pub aim_is : (pages : List Content) (list : ℕ) (t : CentreTuple) (before after : List Mark) → length before ≡ length pages → AreBelow list before
-    → AreChanged (marked_by pages list (chain_from pages t.first)) before after → (block : ℕ)
-    → is_met list (slice_get after block) ≡ is_among block (chain_from pages t.first)
-aim_is pages list t before after long below changed block =
-    ap (is_met list) (changed.marks block) ∙ by_mark (slice_get before block) refl
-  where
-    chain : List ℕ
-    chain = chain_from pages t.first
+  mark_of : (block : ℕ) → has_entries (slice_get pages block) ≡ true → (m : Mark) × (slice_get marks block ≡ Some m) × IsSo p pages k block m
+  mark_of block has =
+      let c = entries_there (slice_get pages block) has in
+      let is = slice_get-get_or marks block Nowhere (omega (arith, slice_get_within pages block c.0 c.1, are.long)) in
+      (get_or marks block Nowhere, is, are.so block (get_or marks block Nowhere) is)
 
-    ends_within : stops_short pages block (chain_from pages t.first) ≡ true → is_among block (chain_from pages t.first) ≡ true
-    ends_within short =
-        ends_among block (chain_from pages t.first)
-        (and_parts (ends_at block (chain_from pages t.first)) (is_some (next_of (slice_get pages block))) short).0
+  -- a mark of a block in a chain
+  is_some_chain : (block list : ℕ) (m : Mark) → IsSo p pages k block m → list < k → is_among block (chain_in p pages list) ≡ true → is_passed (Some m) ≡ true
+  is_some_chain block list Nowhere so low within = absurd (both_ways (is_among block (chain_in p pages list)) (so list low) within)
+  is_some_chain block list (Once l) so low within = refl
+  is_some_chain block list (Short l) so low within = refl
+  is_some_chain block list Shared so low within = refl
 
-    out : slice_get before block ≡ None → (w : Bool) → is_among block (chain_from pages t.first) ≡ w → false ≡ w
-    out none true within =
-        let c = entries_there (slice_get pages block) (among_chain pages (Some t) block within) in
-        let is = slice_get-get_or before block Nowhere (omega (arith, slice_get_within pages block c.0 c.1, long)) in
-        let both : None ≡ Some (get_or before block Nowhere) = sym none ∙ is in absurd cc
-    out none false within = refl
+  -- a mark of a block in two chains
+  is_two_chains : (block : ℕ) (m : Mark) → IsSo p pages k block m → IsShared p pages k block → is_shared (Some m) ≡ true
+  is_two_chains block Nowhere so two = absurd (both_ways (is_among block (chain_in p pages two.list)) (so two.list two.low) two.within)
+  is_two_chains block (Once l) so two =
+      absurd (two.differ (so.only two.list two.low two.within ∙ sym (so.only two.other two.other_low two.other_within)))
+  is_two_chains block (Short l) so two =
+      absurd (two.differ (so.only two.list two.low two.within ∙ sym (so.only two.other two.other_low two.other_within)))
+  is_two_chains block Shared so two = refl
 
-    by_mark : (o : Option Mark) → slice_get before block ≡ o
-        → is_met list (option_map (marked_by pages list (chain_from pages t.first) block) o) ≡ is_among block (chain_from pages t.first)
-    by_mark None is = out is (is_among block (chain_from pages t.first)) refl
-    by_mark (Some m) is =
-        mark_last list (is_among block (chain_from pages t.first)) (stops_short pages block (chain_from pages t.first)) m (below block m is) ends_within
+  chain_by : (block : ℕ) (o : Option Mark) → ((m : Mark) → o ≡ Some m → IsSo p pages k block m) → is_passed o ≡ true
+      → (list : ℕ) × (list < k) × (is_among block (chain_in p pages list) ≡ true)
+  chain_by block None so is = absurd cc
+  chain_by block (Some Nowhere) so is = absurd cc
+  chain_by block (Some (Once l)) so is = let s = so (Once l) refl in (l, s.low, s.within)
+  chain_by block (Some (Short l)) so is = let s = so (Short l) refl in (l, s.low, s.within)
+  chain_by block (Some Shared) so is = let s = so Shared refl in (s.list, s.low, s.within)
+
+  chains_by : (block : ℕ) (o : Option Mark) → ((m : Mark) → o ≡ Some m → IsSo p pages k block m) → is_shared o ≡ true → IsShared p pages k block
+  chains_by block None so is = absurd cc
+  chains_by block (Some Nowhere) so is = absurd cc
+  chains_by block (Some (Once l)) so is = absurd cc
+  chains_by block (Some (Short l)) so is = absurd cc
+  chains_by block (Some Shared) so is = so Shared refl
+
+  pub closed_marks : AreClosed pages marks
+  closed_marks = record {
+    passed = λ block next is to has.
+        let c = chain_by block (slice_get marks block) (are.so block) is in
+        let m = mark_of next has in
+        ap is_passed m.1 ∙ is_some_chain next c.0 m.0 m.2 c.1 (goes_on block next c.0 c.2 to has);
+    shared = λ block next is to has.
+        let s = chains_by block (slice_get marks block) (are.so block) is in
+        let m = mark_of next has in
+        ap is_shared m.1 ∙ is_two_chains next m.0 m.2 (record {
+          list = s.list;
+          low = s.low;
+          within = goes_on block next s.list s.within to has;
+          other = s.other;
+          other_low = s.other_low;
+          other_within = goes_on block next s.other s.other_within to has;
+          differ = s.differ;
+        });
+    there = λ block is.
+        let s = chains_by block (slice_get marks block) (are.so block) is in among_chain pages (centre_in p pages s.list) block s.within;
+  }
 
 -- ---- chains that are apart
 
@@ -205,10 +253,8 @@ module _ (p : Params) (pages : List Content) (tuples : List CentreTuple) (list :
       nowhere : (m : Mark) → IsSo p pages list block m → m ≡ Nowhere
       nowhere Nowhere so = refl
       nowhere (Once l) so = absurd (other l so.low so.within)
-      nowhere (Wrongly l) (low, inl s) = absurd (other s.list s.low s.within)
-      nowhere (Wrongly l) (low, inr s) =
-          absurd (other s.list s.low (ends_among block (chain_in p pages s.list)
-          (and_parts (ends_at block (chain_in p pages s.list)) (is_some (next_of (slice_get pages block))) s.short).0))
+      nowhere (Short l) so = absurd (other l so.low so.within)
+      nowhere Shared so = absurd (other so.list so.low so.within)
 
   left_is : drop list tuples ≡ t ∷ drop (list + 1) tuples
   left_is =

@@ -1,5 +1,5 @@
 -- What is kept of the blocks while the chains of the lists are followed, that of list 0 first; and what is found then.
-use Rattle.std.specs.Prelude.{◌≡◌, ◌≢◌, ℕ, zero, suc, ◌<◌, ◌≤◌, ◌+◌, ◌&&◌, ◌||◌, ◌==◌, ◌⊎◌, ⊤, if◌then◌else◌, not, Bool, true, false, List, [], ◌∷◌, length, map, slice_get, Option, Some, None, Result, Ok, Err}
+use Rattle.std.specs.Prelude.{◌≡◌, ◌≢◌, ℕ, zero, suc, ◌<◌, ◌≤◌, ◌+◌, ◌&&◌, ◌||◌, ◌==◌, ⊤, if◌then◌else◌, not, Bool, true, false, List, [], ◌∷◌, length, map, slice_get, Option, Some, None, Result, Ok, Err}
 use Rattle.std.specs.List.{list_all, list_any, filter_map}
 use Rattle.std.specs.Option.{option_map, is_some}
 use Rattle.vec_names.specs.declared.params.Params.{Params}
@@ -8,36 +8,87 @@ use Rattle.vec_tuples.specs.declared.centre.CentreTuple.{CentreTuple}
 use Rattle.ivf_graph.specs.Graph.{Row}
 use Rattle.page_redo.specs.declared.graph_fault.GraphFault.{GraphFault}
 use Rattle.page_redo.specs.declared.graph_fault.GraphFault.TheVariants.{Memory, Bad}
-use Rattle.page_redo.specs.PageTuples.{is_lists_page}
+use Rattle.page_redo.specs.PageTuples.{is_lists_page, is_entries_page}
 use Rattle.page_redo.specs.PageChanges.{when, list_block}
+use Rattle.ivf_pages.specs.declared.links.Link.{Link}
+use Rattle.ivf_pages.specs.declared.links.Link.TheVariants.{Away, Last, To}
 use Rattle.ivf_pages.specs.declared.marks.Mark.{Mark}
-use Rattle.ivf_pages.specs.declared.marks.Mark.TheVariants.{Nowhere, Once, Wrongly}
+use Rattle.ivf_pages.specs.declared.marks.Mark.TheVariants.{Nowhere, Once, Short, Shared}
 use Rattle.ivf_pages.specs.Standing.{is_among, next_of, has_entries, ends_at, goes_to, centre_in, chain_from, chain_in, has_aim, lists_end, lists_on, is_entry, row_in, rows_of, IsEntryPage}
+
+-- ---- links
+
+-- a block of entries, by the next block that its page names
+abbrev pub linked : Option ℕ → Link
+linked None = Last
+linked (Some next) = To next
+
+-- what a chain finds at the block of a page
+abbrev pub link_of : Content → Link
+link_of c = if is_entries_page c.kind then linked c.next else Away
+
+abbrev pub leads : Option Link → Bool
+leads None = false
+leads (Some Away) = false
+leads (Some Last) = true
+leads (Some (To next)) = true
+
+abbrev pub behind : Option Link → Option ℕ
+behind None = None
+behind (Some Away) = None
+behind (Some Last) = None
+behind (Some (To next)) = Some next
 
 -- ---- marks
 
--- the chain of this list was the last that came by
-abbrev pub is_last : ℕ → Mark → Bool
-is_last list Nowhere = false
-is_last list (Once l) = l == list
-is_last list (Wrongly l) = l == list
+-- the block stands in the chain of this list alone
+abbrev pub is_own : ℕ → Mark → Bool
+is_own list Nowhere = false
+is_own list (Once l) = l == list
+is_own list (Short l) = l == list
+is_own list Shared = false
 
 abbrev pub is_met : ℕ → Option Mark → Bool
 is_met list None = false
-is_met list (Some m) = is_last list m
+is_met list (Some m) = is_own list m
 
 -- no chain came by
 abbrev pub is_new : Option Mark → Bool
 is_new None = false
 is_new (Some Nowhere) = true
 is_new (Some (Once l)) = false
-is_new (Some (Wrongly l)) = false
+is_new (Some (Short l)) = false
+is_new (Some Shared) = false
+
+-- some chain came by
+abbrev pub is_passed : Option Mark → Bool
+is_passed None = false
+is_passed (Some Nowhere) = false
+is_passed (Some (Once l)) = true
+is_passed (Some (Short l)) = true
+is_passed (Some Shared) = true
+
+-- several chains came by
+abbrev pub is_shared : Option Mark → Bool
+is_shared None = false
+is_shared (Some Nowhere) = false
+is_shared (Some (Once l)) = false
+is_shared (Some (Short l)) = false
+is_shared (Some Shared) = true
 
 -- a block by which the chain of a list comes
 abbrev pub visited : ℕ → Mark → Mark
 visited list Nowhere = Once list
-visited list (Once l) = Wrongly list
-visited list (Wrongly l) = Wrongly list
+visited list (Once l) = Shared
+visited list (Short l) = Shared
+visited list Shared = Shared
+
+-- a block at which the one chain that came by ends, although its page names a next one
+abbrev pub shortened : Mark → Mark
+shortened Nowhere = Nowhere
+shortened (Once l) = Short l
+shortened (Short l) = Short l
+shortened Shared = Shared
 
 -- the chain ends at the block, whose page names a next one
 abbrev pub stops_short : List Content → ℕ → List ℕ → Bool
@@ -45,7 +96,7 @@ stops_short pages block chain = ends_at block chain && is_some (next_of (slice_g
 
 -- a block once the chain of a list was followed, by whether it stands in that chain, and whether that stops short there
 abbrev pub marked : ℕ → Bool → Bool → Mark → Mark
-marked list within short m = if short then Wrongly list else (if within then visited list m else m)
+marked list within short m = if within then (if short then shortened (visited list m) else visited list m) else m
 
 abbrev pub marked_by : List Content → ℕ → List ℕ → ℕ → Mark → Mark
 marked_by pages list chain block m = marked list (is_among block chain) (stops_short pages block chain) m
@@ -60,21 +111,41 @@ pub record AreChanged (change : ℕ → Mark → Mark) (before after : List Mark
 abbrev pub visited_at : ℕ → ℕ → ℕ → Mark → Mark
 visited_at list to block m = if to == block then visited list m else m
 
-abbrev pub stopped_at : ℕ → ℕ → ℕ → Mark → Mark
-stopped_at list at block m = if at == block then Wrongly list else m
+abbrev pub shortened_at : ℕ → ℕ → Mark → Mark
+shortened_at at block m = if at == block then shortened m else m
 
 abbrev pub is_here : ℕ → Option ℕ → Bool
 is_here block None = false
 is_here block (Some b) = b == block
 
--- the chain came from one block last and goes to another, where it can't go on
-abbrev pub stopped : ℕ → Option ℕ → Option ℕ → ℕ → Mark → Mark
-stopped list from to block m = if is_here block from && is_some to then Wrongly list else m
+-- there is a next block, and it is not shared
+abbrev pub is_cut : List Mark → Option ℕ → Bool
+is_cut marks None = false
+is_cut marks (Some block) = not (is_shared (slice_get marks block))
 
--- the block that the chain goes on to, where it can
-abbrev pub arrived : List Content → ℕ → List Mark → Option ℕ → Option ℕ
-arrived pages list marks None = None
-arrived pages list marks (Some block) = when (has_entries (slice_get pages block) && not (is_met list (slice_get marks block))) block
+-- the chain came from this block last, where it is cut
+abbrev pub stopped : Option ℕ → Bool → ℕ → Mark → Mark
+stopped from cut block m = if is_here block from && cut then shortened m else m
+
+-- The block that the chain goes on to, where it can. It need not go on to a shared one, behind which all are shared.
+abbrev pub arrived : List Link → ℕ → List Mark → Option ℕ → Option ℕ
+arrived links list marks None = None
+arrived links list marks (Some block) =
+    when (leads (slice_get links block) && not (is_met list (slice_get marks block) || is_shared (slice_get marks block))) block
+
+-- ---- the aim of a list
+
+-- the block is reached in at most so many steps over blocks of entries
+abbrev pub comes_to : List Link → ℕ → ℕ → Option ℕ → Bool
+comes_to links zero block to = false
+comes_to links (suc most) block None = false
+comes_to links (suc most) block (Some b) =
+    leads (slice_get links b) && (b == block || comes_to links most block (behind (slice_get links b)))
+
+-- the aim stands in the chain of the list, which was followed last
+abbrev pub is_aim_met : List Link → ℕ → List Mark → CentreTuple → Bool
+is_aim_met links list marks t =
+    if is_shared (slice_get marks t.aim) then comes_to links (length links) t.aim (Some t.first) else is_met list (slice_get marks t.aim)
 
 -- ---- marks of earlier chains
 
@@ -82,19 +153,28 @@ arrived pages list marks (Some block) = when (has_entries (slice_get pages block
 abbrev pub IsBelow : ℕ → Mark → Type 0
 IsBelow list Nowhere = ⊤
 IsBelow list (Once l) = l < list
-IsBelow list (Wrongly l) = l < list
+IsBelow list (Short l) = l < list
+IsBelow list Shared = ⊤
 
 abbrev pub AreBelow : ℕ → List Mark → Type 0
 AreBelow list marks = (block : ℕ) (m : Mark) → slice_get marks block ≡ Some m → IsBelow list m
 
+-- Where a chain came by it came by the next block too, and where several did, all of these.
+pub record AreClosed (pages : List Content) (marks : List Mark) : Type 0 where
+  pub passed : (block next : ℕ) → is_passed (slice_get marks block) ≡ true → next_of (slice_get pages block) ≡ Some next
+      → has_entries (slice_get pages next) ≡ true → is_passed (slice_get marks next) ≡ true
+  pub shared : (block next : ℕ) → is_shared (slice_get marks block) ≡ true → next_of (slice_get pages block) ≡ Some next
+      → has_entries (slice_get pages next) ≡ true → is_shared (slice_get marks next) ≡ true
+  pub there : (block : ℕ) → is_shared (slice_get marks block) ≡ true → has_entries (slice_get pages block) ≡ true
+
 -- ---- what a mark says, of the chains of so many lists
 
--- the block stands in the chain of this list alone, and that chain does not stop short there
-pub record IsInOneOf (p : Params) (pages : List Content) (count block list : ℕ) : Type 0 where
+-- the block stands in the chain of this list alone, and that chain stops short there, or does not
+pub record IsInOneOf (p : Params) (pages : List Content) (count block list : ℕ) (short : Bool) : Type 0 where
   pub low : list < count
   pub within : is_among block (chain_in p pages list) ≡ true
   pub only : (other : ℕ) → other < count → is_among block (chain_in p pages other) ≡ true → other ≡ list
-  pub goes_on : stops_short pages block (chain_in p pages list) ≡ false
+  pub is_short : stops_short pages block (chain_in p pages list) ≡ short
 
 -- the block stands in the chains of two lists
 pub record IsShared (p : Params) (pages : List Content) (count block : ℕ) : Type 0 where
@@ -106,16 +186,11 @@ pub record IsShared (p : Params) (pages : List Content) (count block : ℕ) : Ty
   pub other_within : is_among block (chain_in p pages other) ≡ true
   pub differ : list ≢ other
 
--- the chain of a list stops short at the block
-pub record IsStopped (p : Params) (pages : List Content) (count block : ℕ) : Type 0 where
-  pub list : ℕ
-  pub low : list < count
-  pub short : stops_short pages block (chain_in p pages list) ≡ true
-
 abbrev pub IsSo : Params → List Content → ℕ → ℕ → Mark → Type 0
 IsSo p pages count block Nowhere = (list : ℕ) → list < count → is_among block (chain_in p pages list) ≡ false
-IsSo p pages count block (Once l) = IsInOneOf p pages count block l
-IsSo p pages count block (Wrongly l) = (l < count) × (IsShared p pages count block ⊎ IsStopped p pages count block)
+IsSo p pages count block (Once l) = IsInOneOf p pages count block l false
+IsSo p pages count block (Short l) = IsInOneOf p pages count block l true
+IsSo p pages count block Shared = IsShared p pages count block
 
 -- each block has its mark
 pub record AreMarked (p : Params) (pages : List Content) (count : ℕ) (marks : List Mark) : Type 0 where
@@ -126,7 +201,8 @@ abbrev pub is_in_one : Option Mark → Bool
 is_in_one None = false
 is_in_one (Some Nowhere) = false
 is_in_one (Some (Once l)) = true
-is_in_one (Some (Wrongly l)) = false
+is_in_one (Some (Short l)) = false
+is_in_one (Some Shared) = false
 
 -- ---- list tuples
 

@@ -11,7 +11,6 @@ ghost use Rattle.ivf_pages.specs.Walking.{reaches};
 ghost use Rattle.ivf_pages.specs.FollowTests.{leads_to, is_on_chain, is_next_behind};
 
 use crate::list_tuples::head_of;
-use crate::walking::next_of;
 use index_sizes::MOST_BLOCKS;
 use page_bytes::Page;
 use vec_history::Event;
@@ -94,4 +93,14 @@ fn reaches(pages: &[Page], first: u32, block: u32) -> bool
         to = next_of(pages, met);
     }
     false
+}
+
+/// The block behind a block in its chain, as its page says.
+fn next_of(pages: &[Page], block: u32) -> Option<u32>
+    ensures { result ≡ next_of (slice_get pages.now block) }
+{
+    match pages.get(block as usize) {
+        Some(page) => page.next(),
+        None => None,
+    }
 }

@@ -11,6 +11,7 @@ mod examples;
 mod fitting;
 mod following;
 mod law;
+mod links;
 mod list_blocks;
 mod list_chains;
 mod list_tuples;

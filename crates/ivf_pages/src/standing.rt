@@ -32,8 +32,8 @@ use vec_tuples::CentreTuple;
 /// chain has met before, breaks the page that names it. A block that two chains share, or none, is broken itself. `Memory` says nothing
 /// of the pages; then all memory is given back.
 ///
-/// Each tuple is decoded once, and each chain is followed once. Where chains share blocks, which no good index has, each is followed to
-/// its end: at most as many steps as there are lists, for each block.
+/// Each tuple is decoded once, and each block is passed by two chains at most: where chains share blocks, which no good index has, no
+/// third one is followed there. Only an aim that several chains have is looked for again, in a step for each block at most.
 pub fn ivf_of(alloc: Global, pages: &[Page]) -> Result<IvfGraph, GraphFault>
     requires { length pages.now ≤ MOST_BLOCKS }
     ensures { IsIndexOf pages.now result }

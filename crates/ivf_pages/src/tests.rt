@@ -306,6 +306,104 @@ fn chains_that_break_a_rule(rt: HostRuntime) -> Result<(), Fail> {
     Ok(())
 }
 
+/// Three lists by their first blocks and aims, and the blocks that the pages 2 to 5 name as their next ones, 0 for none.
+#[derive(Clone, Copy)]
+struct Chains {
+    firsts: [u8; 3],
+    aims: [u8; 3],
+    nexts: [u8; 4],
+}
+
+/// The block that breaks a rule where the lists have such chains.
+fn broken_by_chains(alloc: Global, chains: &Chains) -> Result<Option<u32>, GraphFault> {
+    let [first0, first1, first2] = chains.firsts;
+    let [aim0, aim1, aim2] = chains.aims;
+    let [next2, next3, next4, next5] = chains.nexts;
+    let parts = Parts {
+        lists: [
+            list_tuple(first0, aim0, 0),
+            list_tuple(first1, aim1, 0xE0),
+            list_tuple(first2, aim2, 0x10),
+        ],
+        nexts: [next2, next3, next4],
+        ..worked()
+    };
+    broken_of(alloc, &pages_of(KINDS, &parts, entries(next5)))
+}
+
+/// Blocks 4 and 5 are a ring, which the chains of three lists enter: 2, 4, 5 and 3, 5, 4 and 4, 5.
+const ONE_RING: Chains = Chains {
+    firsts: [2, 3, 4],
+    aims: [2, 3, 4],
+    nexts: [4, 5, 5, 4],
+};
+
+#[test]
+fn chains_that_enter_one_ring(rt: HostRuntime) -> Result<(), Fail> {
+    for (aims, block) in [
+        // The lowest block that two chains have, also where the aims stand behind the block at which a chain meets another.
+        ([2, 3, 4], Some(4)),
+        ([5, 4, 5], Some(4)),
+        // An aim before the ring, in the chain of another list; and one without entries.
+        ([3, 3, 4], Some(1)),
+        ([2, 2, 4], Some(1)),
+        ([2, 3, 3], Some(1)),
+        ([2, 1, 4], Some(1)),
+    ] {
+        let chains = Chains { aims, ..ONE_RING };
+        assert!(rt; broken_by_chains(rt.alloc(), &chains)? == block);
+    }
+    Ok(())
+}
+
+/// Chains that meet one another otherwise, and the lowest block that breaks a rule.
+const MEETING: [(Chains, u32); 4] = [
+    // A ring of 2 and 3, into which block 4 leads.
+    (
+        Chains {
+            firsts: [2, 4, 5],
+            aims: [2, 2, 5],
+            nexts: [3, 2, 3, 0],
+        },
+        2,
+    ),
+    // A ring of 4 and 5 in one chain alone, which begins at 5: block 4 closes it.
+    (
+        Chains {
+            firsts: [5, 3, 2],
+            aims: [4, 3, 2],
+            nexts: [0, 0, 5, 4],
+        },
+        4,
+    ),
+    // Three chains that share their last block alone.
+    (
+        Chains {
+            firsts: [4, 3, 2],
+            aims: [4, 3, 5],
+            nexts: [5, 5, 5, 0],
+        },
+        5,
+    ),
+    // The same, where its page names a block that is not there.
+    (
+        Chains {
+            firsts: [4, 3, 2],
+            aims: [5, 5, 2],
+            nexts: [5, 5, 5, 9],
+        },
+        5,
+    ),
+];
+
+#[test]
+fn chains_that_meet(rt: HostRuntime) -> Result<(), Fail> {
+    for (chains, block) in MEETING {
+        assert!(rt; broken_by_chains(rt.alloc(), &chains)? == Some(block));
+    }
+    Ok(())
+}
+
 #[test]
 fn pages_that_are_missing(rt: HostRuntime) -> Result<(), Fail> {
     let alloc = rt.alloc();

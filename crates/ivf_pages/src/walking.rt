@@ -4,12 +4,12 @@ ghost use Rattle.std.specs.Prelude.{◌≡◌, ◌≤◌, ◌<◌, ◌++◌, ◌
 ghost use Rattle.std.specs.Option.{is_some};
 ghost use Rattle.vec_names.specs.Params.{IsInRange};
 ghost use Rattle.ivf_pages.specs.declared.marks.Mark.TheVariants.{Nowhere};
-ghost use Rattle.ivf_pages.specs.Standing.{has_entries, next_of, centre_in, chain_from, has_aim};
-ghost use Rattle.ivf_pages.specs.Walking.{arrived, stopped, marked_by, visited_at, AreChanged, AreBelow, AreMarked, AreFirstTuples, IsFirstAimless, AreChainsApart, IsNew, chains_of};
+ghost use Rattle.ivf_pages.specs.Standing.{centre_in, chain_from, has_aim};
+ghost use Rattle.ivf_pages.specs.Walking.{link_of, arrived, is_cut, stopped, is_aim_met, comes_to, marked_by, visited_at, AreChanged, AreBelow, AreClosed, AreMarked, AreFirstTuples, IsFirstAimless, AreChainsApart, IsNew, chains_of};
 
-use crate::marks::{Mark, is_met, is_new, stop_at, visit};
+use crate::links::{Link, behind, leads, links_of};
+use crate::marks::{Mark, is_met, is_new, is_shared, shorten, visit};
 use page_bytes::Page;
-use page_redo::holds_entries;
 use std::alloc::{AllocError, Global};
 use vec_names::{Listed, Params};
 use vec_tuples::CentreTuple;
@@ -36,7 +36,8 @@ pub fn first_aimless(
     ensures chains { IfOk result (λ first. first ≡ None → AreChainsApart (chains_of pages.now tuples.now)
         → chains.new ≡ chains_of pages.now tuples.now) }
 {
-    match follow_all(alloc, pages, params, tuples, marks, chains)? {
+    let links = links_of(alloc, pages)?;
+    match follow_all(alloc, pages, &links, params, tuples, marks, chains)? {
         Some(list) => Ok(Some(list)),
         None => Ok(first_missing(tuples.len(), params.lists)),
     }
@@ -58,11 +59,13 @@ fn first_missing(count: usize, lists: u32) -> Option<u32>
 fn follow_all(
     alloc: Global,
     pages: &[Page],
+    links: &Listed<Link>,
     params: &Params,
     tuples: &[CentreTuple],
     marks: &mut Listed<Mark>,
     chains: &mut Listed<Listed<u32>>,
 ) -> Result<Option<u32>, AllocError>
+    requires links { links.now ≡ map link_of pages.now }
     requires tuples { AreFirstTuples params.now pages.now tuples.now }
     requires fresh { marks.old ≡ replicate (length pages.now) Mark.Nowhere }
     requires none { chains.old ≡ [] }
@@ -76,8 +79,8 @@ fn follow_all(
     let _lists = params.lists;
     for list in 0..tuples.len() {
         let tuple = &tuples[list];
-        let chain = follow(alloc, pages, marks, list as u32, tuple.first)?;
-        if !is_met(marks, list as u32, tuple.aim) {
+        let chain = follow(alloc, pages, links, marks, list as u32, tuple.first)?;
+        if !has_aim(links, marks, list as u32, tuple) {
             return Ok(Some(list as u32));
         }
         chains.push(chain)?;
@@ -87,17 +90,21 @@ fn follow_all(
 
 // ---- one list
 
-/// Follows the chain of a list from its first block on: to the last page, or to one that is not there, has no entries or was met before.
-/// Tells its blocks in their order, but for those where another chain came by before.
+/// Follows the chain of a list from its first block on: to the last page, or to one that is not there, has no entries, was met before, or
+/// is shared by two chains already. So each block is passed twice at most, whatever the number of lists. Tells its blocks in their order,
+/// but for those where another chain came by before.
 fn follow(
     alloc: Global,
     pages: &[Page],
+    links: &Listed<Link>,
     marks: &mut Listed<Mark>,
     list: u32,
     first: u32,
 ) -> Result<Listed<u32>, AllocError>
+    requires links { links.now ≡ map link_of pages.now }
     requires long { length marks.old ≡ length pages.now }
     requires below { AreBelow list marks.old }
+    requires closed { AreClosed pages.now marks.old }
     ensures marked { OnOk result (AreChanged (marked_by pages.now list (chain_from pages.now first)) marks.old marks.new) }
     ensures told { IfOk result (λ chain. IsNew marks.old (chain_from pages.now first) → chain ≡ chain_from pages.now first) }
 {
@@ -105,25 +112,25 @@ fn follow(
     let mut from = None;
     let mut to = Some(first);
     for i in 0..pages.len() {
-        let Some(block) = arrived(pages, marks, list, to) else {
-            stop(marks, list, from, to);
+        let Some(block) = arrived(links, marks, list, to) else {
+            stop(marks, from, to);
             return Ok(chain);
         };
         come_by(marks, list, block, &mut chain)?;
-        to = next_of(pages, block);
+        to = behind(links, block);
         from = Some(block);
     }
-    stop(marks, list, from, to);
+    stop(marks, from, to);
     Ok(chain)
 }
 
-/// The block that the chain goes on to, where it can: it has entries, and the chain has not met it before.
-fn arrived(pages: &[Page], marks: &Listed<Mark>, list: u32, to: Option<u32>) -> Option<u32>
-    ensures { result ≡ arrived pages.now list marks.now to }
+/// The block that the chain goes on to, where it can and has to: it has entries, the chain has not met it before, and no two have.
+fn arrived(links: &Listed<Link>, marks: &Listed<Mark>, list: u32, to: Option<u32>) -> Option<u32>
+    ensures { result ≡ arrived links.now list marks.now to }
 {
     match to {
         Some(block) => {
-            if has_entries(pages, block) && !is_met(marks, list, block) {
+            if leads(links, block) && !(is_met(marks, list, block) || is_shared(marks, block)) {
                 Some(block)
             } else {
                 None
@@ -152,36 +159,58 @@ fn come_by(
     Ok(())
 }
 
-/// The chain ends at the block that it came from last, which stops it short where that names a next one.
-fn stop(marks: &mut Listed<Mark>, list: u32, from: Option<u32>, to: Option<u32>)
-    ensures { AreChanged (stopped list from to) marks.old marks.new }
+/// The chain ends at the block that it came from last, which stops it short where that names a next one, but for one that is shared.
+fn stop(marks: &mut Listed<Mark>, from: Option<u32>, to: Option<u32>)
+    ensures { AreChanged (stopped from (is_cut marks.old to)) marks.old marks.new }
 {
     let Some(block) = from else {
         return;
     };
-    if to.is_none() {
+    if !is_cut(marks, to) {
         return;
     }
-    stop_at(marks, list, block);
+    shorten(marks, block);
 }
 
-// ---- pages
-
-pub fn has_entries(pages: &[Page], block: u32) -> bool
-    ensures { result ≡ has_entries (slice_get pages.now block) }
+/// Whether there is a next block, which is not shared.
+fn is_cut(marks: &Listed<Mark>, to: Option<u32>) -> bool
+    ensures { result ≡ is_cut marks.now to }
 {
-    match pages.get(block as usize) {
-        Some(page) => holds_entries(page),
+    match to {
+        Some(block) => !is_shared(marks, block),
         None => false,
     }
 }
 
-/// The block behind a block in its chain, as its page says.
-pub fn next_of(pages: &[Page], block: u32) -> Option<u32>
-    ensures { result ≡ next_of (slice_get pages.now block) }
+// ---- the aim of a list
+
+/// Whether the aim stands in the chain of the list, which was followed last. Where the aim is shared it is looked for, block by block.
+fn has_aim(links: &Listed<Link>, marks: &Listed<Mark>, list: u32, tuple: &CentreTuple) -> bool
+    ensures { result ≡ is_aim_met links.now list marks.now tuple.now }
 {
-    match pages.get(block as usize) {
-        Some(page) => page.next(),
-        None => None,
+    if is_shared(marks, tuple.aim) {
+        comes_to(links, tuple.first, tuple.aim)
+    } else {
+        is_met(marks, list, tuple.aim)
     }
+}
+
+/// Whether the block is reached from the first one, over blocks of entries. It takes a step for each block at most.
+fn comes_to(links: &Listed<Link>, first: u32, block: u32) -> bool
+    ensures { result ≡ comes_to links.now (length links.now) block (Some first) }
+{
+    let mut to = Some(first);
+    for i in 0..links.len() {
+        let Some(met) = to else {
+            return false;
+        };
+        if !leads(links, met) {
+            return false;
+        }
+        if met == block {
+            return true;
+        }
+        to = behind(links, met);
+    }
+    false
 }
