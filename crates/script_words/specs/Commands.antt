@@ -105,7 +105,8 @@ abbrev pub HasRest : List (List ℕ) → Command → Type 0
 HasRest rest (Row id bits word) = IsGivenRow rest id bits word
 HasRest rest (Query bits) = IsValue rest bits
 HasRest rest (Draw seed) = (rest ≡ decimal seed ∷ []) × IsNumber seed
-HasRest rest (Create ops bits m ef round) = (words : List (List ℕ)) × (rest ≡ codes "hnsw" ∷ words) × IsCreate words ops bits m ef round
+HasRest rest (Create ops bits m ef round) =
+    (words : List (List ℕ)) × (rest ≡ codes "hnsw" ∷ words) × IsCreate words ops bits m ef round
 HasRest rest (Insert id bits word) = IsGivenRow rest id bits word
 HasRest rest (Search bits limit ef further) = IsSearch rest bits limit ef further
 HasRest rest Stats = rest ≡ []

@@ -22,7 +22,8 @@ pub struct Making {
 
 /// The words behind `create hnsw`: the distance, the number of places, and numbers that may be left out.
 pub fn read_create(left: Option<&[u8]>) -> Option<Making>
-    ensures { MatchOption result ((ops : AnyOps) (bits : ℕ) (m ef round : Option ℕ) → ¬ IsCreate (words_left left.entry) ops bits m ef round)
+    ensures { MatchOption result ((ops : AnyOps) (bits : ℕ) (m ef round : Option ℕ)
+        → ¬ IsCreate (words_left left.entry) ops bits m ef round)
         (λ made. IsCreate (words_left left.entry) made.ops made.bits made.m made.ef made.round) }
 {
     let (ops, behind) = match next_ops(left) {

@@ -12,7 +12,8 @@ pub fn one_reading()
 
 /// A law, and no work. A script has no line outside the form.
 pub fn apart()
-    ensures { (form : Form) (bytes : List ℕ) (commands : List Command) (line : ℕ) → IsScript form bytes commands → ¬ IsFirstOutside form bytes line }
+    ensures { (form : Form) (bytes : List ℕ) (commands : List Command) (line : ℕ) → IsScript form bytes commands
+        → ¬ IsFirstOutside form bytes line }
 {}
 
 /// A law, and no work. At most one line is the first outside the form.

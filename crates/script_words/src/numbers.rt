@@ -92,7 +92,8 @@ fn is_memory(fault: BitsFault) -> bool
 
 // An id as `B/O`.
 fn read_id(word: &[u8]) -> Option<HeapId>
-    ensures { MatchOption result ((id : HeapId) → IsRowId id → word.now ≢ id_word id) (λ id. IsRowId id × (word.now ≡ id_word id)) }
+    ensures { MatchOption result ((id : HeapId) → IsRowId id → word.now ≢ id_word id)
+        (λ id. IsRowId id × (word.now ≡ id_word id)) }
 {
     let at = match find_byte(word, b'/') {
         Some(at) => at,

@@ -22,7 +22,8 @@ pub struct GivenRow {
 
 /// The words of a row: its id, its value, and a number that may be left out.
 pub fn read_row(alloc: Global, left: Option<&[u8]>) -> Result<Option<GivenRow>, NoMemory>
-    ensures { IfOk result (λ r. MatchOption r ((id : HeapId) (bits : List Bool) (word : Option ℕ) → ¬ IsGivenRow (words_left left.entry) id bits word)
+    ensures { IfOk result (λ r. MatchOption r ((id : HeapId) (bits : List Bool) (word : Option ℕ)
+        → ¬ IsGivenRow (words_left left.entry) id bits word)
         (λ row. IsGivenRow (words_left left.entry) row.id row.bits row.word)) }
 {
     let (id, behind) = match next_id(left) {
@@ -41,7 +42,8 @@ pub fn read_row(alloc: Global, left: Option<&[u8]>) -> Result<Option<GivenRow>, 
 
 /// A value alone.
 pub fn read_value_alone(alloc: Global, left: Option<&[u8]>) -> Result<Option<Bits>, NoMemory>
-    ensures { IfOk result (λ r. MatchOption r ((bits : List Bool) → ¬ IsValue (words_left left.entry) bits) (λ bits. IsValue (words_left left.entry) bits)) }
+    ensures { IfOk result (λ r. MatchOption r ((bits : List Bool) → ¬ IsValue (words_left left.entry) bits)
+        (λ bits. IsValue (words_left left.entry) bits)) }
 {
     let (bits, rest) = match next_value(alloc, left)? {
         Some(next) => next,

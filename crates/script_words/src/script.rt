@@ -51,7 +51,8 @@ struct Front {
 
 fn read_lines(alloc: Global, form: Form, bytes: &[u8]) -> Result<Front, ScriptFault>
     requires { length bytes.now ≤ 2 ^ 28 }
-    ensures { MatchResult result (λ front. Reads form (lines_of bytes.now) front.commands.items front.next) (IsFormFault form (lines_of bytes.now)) }
+    ensures { MatchResult result (λ front. Reads form (lines_of bytes.now) front.commands.items front.next)
+        (IsFormFault form (lines_of bytes.now)) }
 {
     let mut front = Front {
         commands: Vec::new(alloc),

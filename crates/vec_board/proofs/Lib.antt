@@ -16,3 +16,9 @@ pub mod PlacesThere
 pub mod ChangesMade
 pub mod Changed
 pub mod PartsServe
+pub mod ServedLaws
+pub mod WholeSets
+pub mod SettledWhole
+pub mod DoomedPages
+pub mod LoadedWhole
+pub mod LoneLaws

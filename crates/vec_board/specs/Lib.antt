@@ -9,3 +9,5 @@ pub mod Serving
 pub mod Settling
 pub mod Changes
 pub mod AllAsks
+pub mod Boards
+pub mod Doomed

@@ -53,6 +53,8 @@ impl Core {
         ensures summary { result.summary ≡ summary }
         ensures log { unsettled result.log ≡ unsettled log }
         ensures number { result.number ≡ number }
+        ensures room { room_of result ≡ record { used = (newer_of log).used; since = 0 } }
+        ensures epoch { result.log.epoch ≡ log.epoch }
     {
         let used = log.used();
         Core {
@@ -92,5 +94,21 @@ impl Core {
         ensures { result ≡ used_after (room_of self.now) (acts_of self.now) }
     {
         self.log.used()
+    }
+
+    /// The acts, without the rest of the core.
+    pub(crate) fn into_acts(self) -> Vec<Act>
+        ensures { result.items ≡ acts_of self }
+    {
+        let Core {
+            params: _,
+            summary: _,
+            history,
+            log: _,
+            number: _,
+            used: _,
+            since: _,
+        } = self;
+        history.into_acts()
     }
 }

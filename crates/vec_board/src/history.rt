@@ -56,6 +56,18 @@ impl History {
         self.acts.as_slice()
     }
 
+    /// The acts alone, the first one first.
+    pub fn into_acts(self) -> Vec<Act>
+        ensures { result ≡ self.acts }
+    {
+        let History {
+            acts,
+            tables: _,
+            rooms: _,
+        } = self;
+        acts
+    }
+
     /// What the acts tell of gates, of the vacuum and of settling.
     pub fn tables(&self) -> &Tables
         ensures { result.now ≡ self.now.tables }

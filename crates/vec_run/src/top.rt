@@ -81,7 +81,8 @@ pub fn run_alone<R: Threads + Sync, S: Source, K: Sink, D: Disks>(
     ensures line { (verb : Verb) → IsVerb words.now verb → result.status ≡ 3
         → IsRefusedAt verb (S.left source.old) result.line }
     ensures no_line { result.status ≢ 3 → result.line ≡ 0 }
-    ensures refused { IsVerb words.now Exact → (input : List ℕ) (line : ℕ) → S.left source.old ≡ Some input → IsFirstOutside form.Exact input line
+    ensures refused { IsVerb words.now Exact → (input : List ℕ) (line : ℕ)
+        → S.left source.old ≡ Some input → IsFirstOutside form.Exact input line
         → ¬ Rose (S.count source.old) (S.count source.new) → (result.status ≡ 3) ⊎ (result.status ≡ 1) }
 
     // 4 comes only where a read failed, and 5 only where a write did, after a front of what the verb writes.
