@@ -7,3 +7,4 @@ pub mod Optional
 pub mod Outside
 pub mod OneCommand
 pub mod Forms
+pub mod HitLines

@@ -1,7 +1,8 @@
-//! The script: its lines and words, the commands that they spell, and the forms that have them.
+//! The script: its lines and words, the commands that they spell, the forms that have them, and the replies.
 //!
 //! `read_script` reads the commands of a form, or names the first line that is outside it. The grammar stands in
-//! `specs/Commands.antt`, as the words of each command, and in `specs/Grammar.antt`, as the lines of a script.
+//! `specs/Commands.antt`, as the words of each command, and in `specs/Grammar.antt`, as the lines of a script. `write_reply` writes
+//! the text of a reply, by `specs/Replies.antt`.
 #![tactic(auto)]
 
 mod command;
@@ -12,6 +13,8 @@ mod laws;
 mod line;
 mod numbers;
 mod options;
+mod replies;
+mod reply;
 mod rows;
 mod script;
 mod searching;
@@ -21,6 +24,8 @@ pub use command::{Command, Further};
 pub use fault::ScriptFault;
 pub use form::Form;
 pub use laws::{apart, one_reading, one_refusal};
+pub use replies::{write_hits, write_reply};
+pub use reply::{Counts, Refusal, Reply};
 pub use script::{MOST_BYTES, read_script};
 
 #[cfg(test)]

@@ -1,9 +1,11 @@
 use crate::{
-    Command, Form, Further, MOST_BYTES, ScriptFault, apart, one_reading, one_refusal, read_script,
+    Command, Counts, Form, Further, MOST_BYTES, Refusal, Reply, ScriptFault, apart, one_reading,
+    one_refusal, read_script, write_reply,
 };
+use bit_dist::Dist;
 use std::alloc::Global;
 use std::test::Fail;
-use vec_names::{HeapId, Ops};
+use vec_names::{HeapId, Ops, Tid};
 
 // The only command of a script.
 fn only(alloc: Global, form: Form, text: &str) -> Result<Option<Command>, ScriptFault> {
@@ -218,5 +220,110 @@ fn lines_outside_the_form(rt: HostRuntime) -> Result<(), Fail> {
     one_reading();
     apart();
     one_refusal();
+    Ok(())
+}
+
+// What a reply writes.
+fn text_of(alloc: Global, reply: &Reply) -> Result<Vec<u8>, ScriptFault> {
+    let mut text = Vec::new(alloc);
+    write_reply(reply, &mut text)?;
+    Ok(text)
+}
+
+#[test]
+fn replies_that_are_lines(rt: HostRuntime) -> Result<(), Fail> {
+    let alloc = rt.alloc();
+    let Some(at) = Tid::new(1, 3) else {
+        return Ok(());
+    };
+    let table: [(Reply, &[u8]); 9] = [
+        (Reply::Nothing, b""),
+        (
+            Reply::Created {
+                blocks: 2,
+                entries: 3,
+            },
+            b"created blocks 2 entries 3\n",
+        ),
+        (
+            Reply::Put {
+                at,
+                level: 1,
+                version: 2,
+            },
+            b"put 1/3 level 1 version 2\n",
+        ),
+        (Reply::Joined { at }, b"joined 1/3\n"),
+        (
+            Reply::Stats { counts: COUNTS },
+            b"stats blocks 1 nodes 6 live 3 doomed 2 deleted 1 entries 40\n",
+        ),
+        (
+            Reply::Refused {
+                why: Refusal::NoIndex,
+            },
+            b"refused no-index\n",
+        ),
+        (
+            Reply::Refused {
+                why: Refusal::Exists,
+            },
+            b"refused exists\n",
+        ),
+        (
+            Reply::Refused {
+                why: Refusal::Params,
+            },
+            b"refused params\n",
+        ),
+        (
+            Reply::Refused {
+                why: Refusal::Dimensions,
+            },
+            b"refused dimensions\n",
+        ),
+    ];
+    for (reply, want) in &table {
+        assert_eq!(rt; text_of(alloc, reply)?.as_slice(), *want);
+    }
+    Ok(())
+}
+
+const COUNTS: Counts = Counts {
+    blocks: 1,
+    nodes: 6,
+    live: 3,
+    doomed: 2,
+    deleted: 1,
+    entries: 40,
+};
+
+#[test]
+fn hits_of_both_distances(rt: HostRuntime) -> Result<(), Fail> {
+    let alloc = rt.alloc();
+    let id = HeapId { block: 7, off: 10 };
+    for (ops, want) in [
+        (Ops::Hamming, b"hit 7/10 2\nhits 1\n".as_slice()),
+        (Ops::Jaccard, b"hit 7/10 2/4\nhits 1\n".as_slice()),
+    ] {
+        let mut hits = Vec::new(alloc);
+        hits.push((Dist { num: 2, den: 4 }, id))?;
+        assert_eq!(rt;
+            text_of(alloc, &Reply::Hits { ops, hits })?.as_slice(),
+            want
+        );
+    }
+    let none = Vec::new(alloc);
+    assert_eq!(rt;
+        text_of(
+            alloc,
+            &Reply::Hits {
+                ops: Ops::Hamming,
+                hits: none
+            }
+        )?
+        .as_slice(),
+        b"hits 0\n".as_slice()
+    );
     Ok(())
 }

@@ -1,18 +1,17 @@
 -- Answers, hit by hit.
-use Rattle.std.proofs.Common.{◌≡◌, sym, ap, ◌∙◌, ℕ, ◌+◌, ◌<◌, ◌≤◌, List, [], ◌∷◌, ◌++◌, length, get_or, take, append_assoc}
+use Rattle.std.proofs.Common.{◌≡◌, sym, ap, ◌∙◌, ℕ, ◌+◌, ◌<◌, ◌≤◌, List, [], ◌∷◌, ◌++◌, length, get_or, take}
 use Rattle.std.specs.Prelude.{Bool}
-use Rattle.std.specs.List.{filter_map, flat_map, cons_option}
+use Rattle.std.specs.List.{filter_map, cons_option}
 use Rattle.std.specs.Cmp.{IsStrictWeakOrder}
 use Rattle.std.specs.List.Sorted.{IsSortedBy, IsStableBy}
-use Rattle.std.proofs.lemmas.List.{take_more, take_all, append-nil}
+use Rattle.std.proofs.lemmas.List.{take_more, take_all}
 use Rattle.std.proofs.lemmas.List.Sorted.{ranks_by}
 use Rattle.std.proofs.lemmas.List.Elements.{filter_map-append}
-use Rattle.std.proofs.lemmas.Grind.{flat_map-append}
 use Rattle.bit_dist.specs.Hits.{Hit, hit_cmp_total}
 use Rattle.list_values.specs.Ranking.{ranked}
 use Rattle.list_values.proofs.Ranks.{ranked_is}
 use Rattle.script_words.specs.declared.command.Command.{Command}
-use Rattle.vec_run.specs.Replies.{is_nearer, hit_with, hit_line, nearest}
+use Rattle.vec_run.specs.Replies.{is_nearer, hit_with, nearest}
 
 nearer_ranks : IsStrictWeakOrder is_nearer
 nearer_ranks = ranks_by hit_cmp_total (λ (h : Hit). h)
@@ -30,23 +29,5 @@ hits_more value above k command hits new within item so_far pushed =
     ∙ sym (filter_map-append (hit_with value) (take k above) (command ∷ []))
     ∙ ap (λ (l : List Command). filter_map (hit_with value) l) (ap (λ (c : Command). take k above ++ c ∷ []) item ∙ sym (take_more above k command within))
 
--- one hit more
-pub lines_more : (hits : List Hit) (k : ℕ) (hit : Hit) (old into new : List ℕ) → k < length hits → hit ≡ get_or hits k hit → into ≡ old ++ flat_map hit_line (take k hits) → new ≡ into ++ hit_line hit
-    → new ≡ old ++ flat_map hit_line (take (k + 1) hits)
-lines_more hits k hit old into new within item so_far written =
-    written
-    ∙ ap (λ (l : List ℕ). l ++ hit_line hit) so_far
-    ∙ append_assoc old (flat_map hit_line (take k hits)) (hit_line hit)
-    ∙ ap (λ (l : List ℕ). old ++ (flat_map hit_line (take k hits) ++ l)) (sym (append-nil (hit_line hit)))
-    ∙ ap (λ (l : List ℕ). old ++ l)
-    (sym (flat_map-append hit_line (take k hits) (hit ∷ []))
-    ∙ ap (λ (l : List Hit). flat_map hit_line l) (ap (λ (h : Hit). take k hits ++ h ∷ []) item ∙ sym (take_more hits k hit within)))
-
 pub hits_whole : (value : List Bool) (above : List Command) (k : ℕ) (hits : List Hit) → length above ≤ k → hits ≡ filter_map (hit_with value) (take k above) → hits ≡ filter_map (hit_with value) above
 hits_whole value above k hits past so_far = so_far ∙ ap (λ (l : List Command). filter_map (hit_with value) l) (take_all k above past)
-
-pub lines_whole : (hits : List Hit) (k : ℕ) (old into new last : List ℕ) → length hits ≤ k → into ≡ old ++ flat_map hit_line (take k hits) → new ≡ into ++ last → new ≡ old ++ (flat_map hit_line hits ++ last)
-lines_whole hits k old into new last past so_far written =
-    written
-    ∙ ap (λ (l : List ℕ). l ++ last) (so_far ∙ ap (λ (l : List Hit). old ++ flat_map hit_line l) (take_all k hits past))
-    ∙ append_assoc old (flat_map hit_line hits) last

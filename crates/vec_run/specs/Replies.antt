@@ -1,11 +1,12 @@
 -- What is written for the commands of `exact`.
-use Rattle.std.specs.Prelude.{ℕ, Bool, Option, Some, None, List, [], ◌∷◌, ◌++◌, length, take, drop, codes, decimal}
-use Rattle.std.specs.List.{filter_map, flat_map}
+use Rattle.std.specs.Prelude.{ℕ, Bool, Option, Some, None, List, [], ◌∷◌, ◌++◌, take, drop}
+use Rattle.std.specs.List.{filter_map}
 use Rattle.std.specs.Ordering.{is_lt}
 use Rattle.bit_dist.specs.Distances.{hamming_of}
 use Rattle.bit_dist.specs.Hits.{Hit, hit_cmp}
 use Rattle.list_values.specs.Ranking.{ranked}
-use Rattle.script_words.specs.Commands.{id_word}
+use Rattle.vec_names.specs.declared.params.Ops.TheVariants.{Hamming}
+use Rattle.script_words.specs.Replies.{hits_text}
 use Rattle.script_words.specs.declared.command.Command.{Command}
 use Rattle.script_words.specs.declared.command.Command.TheVariants.{Row, Query}
 
@@ -21,21 +22,9 @@ hit_with value _ = None
 abbrev pub nearest : List Bool → List Command → List Hit
 nearest value above = ranked is_nearer (filter_map (hit_with value) above)
 
--- `hit ID DIST`
-abbrev pub hit_line : Hit → List ℕ
-hit_line hit = codes "hit " ++ id_word hit.1 ++ 32 ∷ decimal hit.0.num ++ 10 ∷ []
-
--- `hits N`
-abbrev pub count_line : ℕ → List ℕ
-count_line n = codes "hits " ++ decimal n ++ 10 ∷ []
-
--- a line for each hit, and one with their count
-abbrev pub hits_text : List Hit → List ℕ
-hits_text hits = flat_map hit_line hits ++ count_line (length hits)
-
 -- what a command is answered, after the commands above it
 abbrev pub reply_of : List Command → Command → List ℕ
-reply_of above (Query bits) = hits_text (nearest bits above)
+reply_of above (Query bits) = hits_text Hamming (nearest bits above)
 reply_of above _ = []
 
 -- what is written for commands, after those above them

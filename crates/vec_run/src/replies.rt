@@ -2,13 +2,13 @@
 ghost use Rattle.std.specs.Prelude.{◌≡◌, [], ◌++◌, length, OnOk, IfOk};
 ghost use Rattle.std.specs.List.{All, cons_option};
 ghost use Rattle.script_words.specs.Grammar.{places_in};
-ghost use Rattle.script_words.specs.Commands.{id_word};
-ghost use Rattle.vec_run.specs.Replies.{count_line, hit_line, hit_with, hits_text, nearest};
+ghost use Rattle.script_words.specs.Replies.{hits_text};
+ghost use Rattle.vec_names.specs.declared.params.Ops.TheVariants.{Hamming};
+ghost use Rattle.vec_run.specs.Replies.{hit_with, nearest};
 
 use bit_code::Bits;
 use bit_dist::{Dist, distance};
-use itoa::{Buffer, Integer};
-use script_words::Command;
+use script_words::{Command, write_hits};
 use std::alloc::{AllocError, Global};
 use vec_names::{HeapId, Ops};
 
@@ -20,10 +20,10 @@ pub fn write_answer(
     into: &mut Vec<u8>,
 ) -> Result<(), AllocError>
     requires { All (λ command. places_in command ≡ length value.now) above.now }
-    ensures { OnOk result (into.new.items ≡ into.old.items ++ hits_text (nearest value.now above.now)) }
+    ensures { OnOk result (into.new.items ≡ into.old.items ++ hits_text Hamming (nearest value.now above.now)) }
 {
     let hits = nearest_rows(alloc, above, value)?;
-    write_hits(&hits, into)
+    write_hits(Ops::Hamming, &hits, into)
 }
 
 fn nearest_rows(
@@ -58,46 +58,4 @@ fn push_hit(
         }
         _ => Ok(()),
     }
-}
-
-fn write_hits(hits: &[(Dist, HeapId)], into: &mut Vec<u8>) -> Result<(), AllocError>
-    ensures { OnOk result (into.new.items ≡ into.old.items ++ hits_text hits.now) }
-{
-    for (dist, id) in hits {
-        write_hit(*dist, *id, into)?;
-    }
-    write_count(hits.len(), into)
-}
-
-fn write_count(count: usize, into: &mut Vec<u8>) -> Result<(), AllocError>
-    ensures { OnOk result (into.new.items ≡ into.old.items ++ count_line count) }
-{
-    into.extend_from_slice(b"hits ")?;
-    write_number(count, into)?;
-    into.extend_from_slice(b"\n")
-}
-
-fn write_hit(dist: Dist, id: HeapId, into: &mut Vec<u8>) -> Result<(), AllocError>
-    ensures { OnOk result (into.new.items ≡ into.old.items ++ hit_line (dist, id)) }
-{
-    into.extend_from_slice(b"hit ")?;
-    write_id(id, into)?;
-    into.extend_from_slice(b" ")?;
-    write_number(dist.num, into)?;
-    into.extend_from_slice(b"\n")
-}
-
-fn write_id(id: HeapId, into: &mut Vec<u8>) -> Result<(), AllocError>
-    ensures { OnOk result (into.new.items ≡ into.old.items ++ id_word id) }
-{
-    write_number(id.block, into)?;
-    into.extend_from_slice(b"/")?;
-    write_number(id.off, into)
-}
-
-fn write_number<I: Integer>(number: I, into: &mut Vec<u8>) -> Result<(), AllocError>
-    ensures { OnOk result (into.new.items ≡ into.old.items ++ I.text number) }
-{
-    let mut buffer = Buffer::new();
-    into.extend_from_slice(buffer.format(number).as_bytes())
 }
