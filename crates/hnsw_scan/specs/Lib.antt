@@ -1,0 +1,4 @@
+pub mod Answering
+pub mod Gathering
+pub mod Gated
+pub mod Present
