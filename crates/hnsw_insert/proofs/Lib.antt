@@ -9,3 +9,4 @@ pub mod Under
 pub mod Finish
 pub mod AddedNode
 pub mod Gates
+pub mod OneRow

@@ -155,7 +155,7 @@ module _ {over stands : Index → Type 0} {d e : Desk} {old mid new : List Act} 
 
     -- never over a base: the place is on another block
     pub puts_odd : (end : OpFault) → end ≡ op.Memory → (place : Place) → place_told told.word told.tid told.list_at told.version ≡ Some place
-        → StopsBy IsUnderGate (IsFullFor (blocks - hint) hint) over d old new end
+        → StopsBy IsUnderGate (IsFullFor node.level (blocks - hint) hint) over d old new end
     puts_odd end is place some =
         let m = did_then same (λ base o. o) (so.made []) (asked_on (Some place) some (Placed place) refl []) in
         stops_memory end is m.does m.is.only
@@ -177,7 +177,7 @@ module _ {over stands : Index → Type 0} {d e : Desk} {old mid new : List Act} 
         }
 
     pub puts_full : blocks ≤ block → place_told told.word told.tid told.list_at told.version ≡ None
-        → StopsBy IsUnderGate (IsFullFor (blocks - hint) hint) over d old new (op.Full told.blocks told.need)
+        → StopsBy IsUnderGate (IsFullFor node.level (blocks - hint) hint) over d old new (op.Full told.blocks told.need)
     puts_full high none =
         let n : deeds.NewNode = node_of node in
         let from = so.from in
@@ -192,6 +192,7 @@ module _ {over stands : Index → Type 0} {d e : Desk} {old mid new : List Act} 
           only = all_both (λ (t : ℕ × Step). IsUnderGate t.1) m.course last m.is.only (tt, tt);
           why = record {
             node = n;
+            level_is = refl;
             before = [];
             asks = m.course;
             in_vain = subst (λ k. AreDeeds m.course (refused_on n k hint)) all m.is.are;

@@ -162,15 +162,21 @@ added_on {stands} {later} {d} {e} {old} {mid} {hint} {blocks} {node} {place} lev
     by (OfLists g) st sh le may a = absurd a.so
 
 -- no block is left, after these steps
-pub full_then : {count block : ℕ} (a b : List (ℕ × Step)) (m n : ℕ) → IsFullFor count block b m n → IsFullFor count block (a ++ b) m n
+pub full_then : {level count block : ℕ} (a b : List (ℕ × Step)) (m n : ℕ) → IsFullFor level count block b m n
+    → IsFullFor level count block (a ++ b) m n
 full_then a b m n f = record {
   node = f.node;
+  level_is = f.level_is;
   before = a ++ f.before;
   asks = f.asks;
   in_vain = f.in_vain;
   at = f.at;
   course_is = ap (λ (l : List (ℕ × Step)). a ++ l) f.course_is ∙ sym (append_assoc a f.before _);
 }
+
+pub full_as : {count block : ℕ} {a : List (ℕ × Step)} {m n : ℕ} (level high : ℕ) → level ≡ high → IsFullFor level count block a m n
+    → IsFullFor high count block a m n
+full_as {count} {block} {a} {m} {n} level high is f = subst (λ (l : ℕ). IsFullFor l count block a m n) is f
 
 -- the parts of a new node's course
 pub puts_node : {over later last : Index → Type 0} {d e f : Desk} {old mid amid new : List Act} {before now : List ℕ} {hint blocks : ℕ} {place : Place} (n : Newcomer) (id : HeapId)
@@ -346,7 +352,7 @@ runs_stays hold n id t landing same on kept m r = record {
 
 pub full_under : {over : Index → Type 0} {d : Desk} {old mid : List Act} {before now : List ℕ} (hold : Hold) (level : ℕ) (t : Told)
     → (hold ≡ Shared → is_above level t.tid t.level ≡ false) → (m : Did over d old mid before now (meta_look (meta_told t) ∷ []))
-    → (b : List (ℕ × Step)) (k n : ℕ) → IsFullFor (t.blocks - t.hint) t.hint b k n → IsFullUnder hold level (m.course ++ b) k n
+    → (b : List (ℕ × Step)) (k n : ℕ) → IsFullFor level (t.blocks - t.hint) t.hint b k n → IsFullUnder hold level (m.course ++ b) k n
 full_under hold level t kept m b k n full = record {
   told = meta_told t;
   kept = kept;

@@ -80,10 +80,11 @@ abbrev pub refused_on : NewNode → ℕ → ℕ → List Deed
 refused_on node zero block = []
 refused_on node (suc k) block = asked (PutsOn block node) NoRoom ∷ refused_on node k (suc block)
 
--- No block is left for the node: each of so many had no room for it, from this one on, and then the index had as many blocks as
--- it may.
-pub record IsFullFor (count block : ℕ) (course : List (ℕ × Step)) (blocks need : ℕ) : Type 0 where
+-- No block is left for a node of this level: each of so many had no room for it, from this one on, and then the index had as many
+-- blocks as it may.
+pub record IsFullFor (level count block : ℕ) (course : List (ℕ × Step)) (blocks need : ℕ) : Type 0 where
   pub node : NewNode
+  pub level_is : node.level ≡ level
   pub before : List (ℕ × Step)
   pub asks : List (ℕ × Step)
   pub in_vain : AreDeeds asks (refused_on node count block)
@@ -165,7 +166,7 @@ pub record IsFullUnder (hold : Hold) (level : ℕ) (course : List (ℕ × Step))
   pub look : List (ℕ × Step)
   pub look_is : AreDeeds look (meta_look told ∷ [])
   pub rest : List (ℕ × Step)
-  pub full : IsFullFor (told.blocks - told.hint) told.hint rest blocks need
+  pub full : IsFullFor level (told.blocks - told.hint) told.hint rest blocks need
   pub course_is : course ≡ look ++ rest
 
 -- ---- from gate to gate

@@ -1,11 +1,13 @@
 -- The insert theorem: what a whole insert does, and how a fault ends it.
-use Rattle.std.specs.Prelude.{◌≡◌, ◌≢◌, ◌-◌, ℕ, ◌⊎◌, Bool, List, [], ◌∷◌, ◌++◌}
+use Rattle.std.specs.Prelude.{◌≡◌, ◌≢◌, ◌-◌, ℕ, ◌⊎◌, Bool, List, [], ◌∷◌, ◌++◌, true, false, filter}
 use Rattle.vec_names.specs.declared.heap_id.HeapId.{HeapId}
 use Rattle.vec_names.specs.Levels.{level_of}
+use Rattle.vec_history.specs.declared.event.Event.{Event}
+use Rattle.vec_history.specs.declared.event.Event.TheVariants as event
 use Rattle.vec_history.specs.declared.event.Act.{Act}
 use Rattle.vec_history.specs.declared.gate.Gate.TheVariants.{Update}
 use Rattle.vec_history.specs.Gates.{Holds}
-use Rattle.graph_search.specs.Deeds.{Deed, Done, Releases, asked}
+use Rattle.graph_search.specs.Deeds.{Deed, Done, Releases, asked, is_of_row, own_events}
 use Rattle.graph_search.specs.Insert.{InsertCourse, MetaTold, Newcomer, Opens, Outcome, WholeInsert}
 use Rattle.vec_steps.specs.declared.fault.OpFault.{OpFault}
 use Rattle.vec_steps.specs.declared.fault.OpFault.TheVariants as op
@@ -43,6 +45,21 @@ pub record Inserts (over : Index → Type 0) (d : Desk) (old new : List Act) (id
   pub whole : WholeInsert d.params id bits word outcome deeds
   pub made : Went over d old new [] inserted.trace.reads deeds
 
+-- An event that gives the index the row of an insert: a Join of its id by the node that is told, or the Put of that node.
+abbrev pub IsRowOf : HeapId → List Bool → ℕ → Inserted → Event → Type 0
+IsRowOf id bits level i (event.Join at version other) = (at ≡ i.at) × (version ≡ i.version) × (other ≡ id) × (i.joined ≡ true)
+IsRowOf id bits level i (event.Put at list_at version high other value lists) =
+    (at ≡ i.at) × (version ≡ i.version) × (high ≡ level) × (i.level ≡ level) × (other ≡ id) × (value ≡ bits) × (i.joined ≡ false)
+IsRowOf id bits level i _ = ⊥
+
+-- Of the desk's own acts that came to the history one gives the index a row: this row, at this level if it is a new node's.
+pub record HasOneRow (desk : ℕ) (old new : List Act) (id : HeapId) (bits : List Bool) (level : ℕ) (inserted : Inserted) : Type 0 where
+  pub more : List Act
+  pub all : new ≡ old ++ more
+  pub one : Event
+  pub only : filter is_of_row (own_events desk more) ≡ one ∷ []
+  pub is : IsRowOf id bits level inserted one
+
 -- No block is left for a node of this level: after the gate was taken, each block from the hint to the last as the meta tuple
 -- told had no room, and then the index had as many blocks as it may.
 pub record IsFull (level : ℕ) (course : List (ℕ × Step)) (blocks need : ℕ) : Type 0 where
@@ -52,7 +69,7 @@ pub record IsFull (level : ℕ) (course : List (ℕ × Step)) (blocks need : ℕ
   pub opening : List (ℕ × Step)
   pub opening_is : AreDeeds opening front
   pub rest : List (ℕ × Step)
-  pub full : IsFullFor (told.blocks - told.hint) told.hint rest blocks need
+  pub full : IsFullFor level (told.blocks - told.hint) told.hint rest blocks need
   pub behind : List (ℕ × Step)
   pub course_is : course ≡ (opening ++ rest) ++ behind
 

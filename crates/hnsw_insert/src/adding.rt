@@ -69,7 +69,7 @@ pub fn add_node<S: Steps>(
         (S.seen steps.old) (S.seen steps.new) trace.old.reads trace.new.reads
         (newcomer_in (S.desk steps.old).params bits.now coming.level None) coming.id blocks.hint blocks.count found.now.top
         (lists_of found.now)) }
-    ensures err { IfErr result (StopsBy IsUnderGate (IsFullFor (blocks.count - blocks.hint) blocks.hint)
+    ensures err { IfErr result (StopsBy IsUnderGate (IsFullFor coming.level (blocks.count - blocks.hint) blocks.hint)
         (OverGraphs (S.stands steps.old) (λ g. MayAdd g (S.seen steps.old)
         (S.desk steps.old).number blocks.hint blocks.count coming.level bits.now found.now.lists found.now.picks)) (S.desk steps.old)
         (S.seen steps.old) (S.seen steps.new)) }

@@ -66,7 +66,7 @@ fn run_course<S: Steps>(
     ensures ok { IfOk result (RunsCourse (OverGraphs (S.stands steps.old) (λ g. AreBlocks g (S.seen steps.old) blocks.hint blocks.count))
         (S.desk steps.old) (S.seen steps.old) (S.seen steps.new) trace.old.reads trace.new.reads
         (newcomer_in (S.desk steps.old).params bits.now coming.level None) coming.id blocks.hint blocks.count) }
-    ensures err { IfErr result (StopsBy IsUnderGate (IsFullFor (blocks.count - blocks.hint) blocks.hint)
+    ensures err { IfErr result (StopsBy IsUnderGate (IsFullFor coming.level (blocks.count - blocks.hint) blocks.hint)
         (OverGraphs (S.stands steps.old) (λ g. AreBlocks g (S.seen steps.old) blocks.hint blocks.count)) (S.desk steps.old)
         (S.seen steps.old) (S.seen steps.new)) }
 {

@@ -7,8 +7,13 @@ mod course;
 mod inserting;
 mod joining;
 mod landing;
+mod law;
 mod linking;
 mod placing;
 
 pub use inserting::insert;
 pub use landing::Inserted;
+pub use law::law_one_row;
+
+#[cfg(test)]
+mod tests;

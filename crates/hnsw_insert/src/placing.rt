@@ -91,7 +91,7 @@ pub fn put_node<S: Steps>(
     ensures ok { IfOk result (PlacesNode (OverGraphs (S.stands steps.old) (λ g. MayPlace g (S.seen steps.old)
         (S.desk steps.old).number blocks.hint blocks.count node.level node.bits node.lists)) (S.desk steps.old)
         (S.seen steps.old) (S.seen steps.new) (node_of node) blocks.hint blocks.count) }
-    ensures err { IfErr result (StopsBy IsUnderGate (IsFullFor (blocks.count - blocks.hint) blocks.hint)
+    ensures err { IfErr result (StopsBy IsUnderGate (IsFullFor node.level (blocks.count - blocks.hint) blocks.hint)
         (OverGraphs (S.stands steps.old) (λ g. MayPlace g (S.seen steps.old)
         (S.desk steps.old).number blocks.hint blocks.count node.level node.bits node.lists)) (S.desk steps.old)
         (S.seen steps.old) (S.seen steps.new)) }

@@ -5,13 +5,14 @@ use Rattle.layer_search.specs.Listing.{lists_of, newcomer_in}
 use Rattle.hnsw_insert.specs.Over.{MayFinish, OverGraphs}
 use Rattle.hnsw_insert.specs.Parts.{FinishesSo}
 use Rattle.vec_names.specs.Params.{IsInRange}
+use Rattle.vec_steps.specs.declared.ask.NewNode.{NewNode}
 use Rattle.vec_steps.specs.Desks.{Desk}
 use Rattle.vec_steps.proofs.Following.{does_nothing, goes_over, goes_then}
 use Rattle.layer_search.specs.Listing.{ArePicksLong}
 use Rattle.layer_search.proofs.Looks.{fails}
 use Rattle.hnsw_insert.proofs.Made.{did_over, did_then}
 use Rattle.hnsw_insert.proofs.Stopped.{handed, never_full, stops_memory, stops_then}
-use Rattle.hnsw_insert.proofs.Under.{full_then, place_on, puts_node, still_held}
+use Rattle.hnsw_insert.proofs.Under.{full_as, full_then, place_on, puts_node, still_held}
 use Rattle.hnsw_insert.proofs.AddedNode.{Adding, after_put, after_quiet, places_over, plain}
 use Rattle.hnsw_insert.proofs.adding.add_node.Goals as goal
 
@@ -49,7 +50,7 @@ returns-in_err-place-clause-err g c =
     let on_1 = after_quiet c.args.blocks.hint c.args.blocks.count c.args.coming.level c.args.bits.now c.args.found.now.lists c.args.found.now.picks r.goes.stays (g.met.S.Steps.shaped s1) (g.met.S.Steps.legal s1) r.goes.still_stands (r.ok c.args.trace.now.reads) in
     let m = did_over plain (r.ok []) in
     handed _ c.from_residual-in_err-place.result
-    (stops_then r.goes.stays (λ base o. place_on c.args.blocks.hint c.args.blocks.count c.in_ok-node.node c.args.coming.level c.args.coming.id c.args.bits.now c.args.found.now.lists c.args.found.now.picks c.in_ok-node.ensures.node base (on_1 base o)) (λ b k n full. full_then m.course b k n full) m.does m.is.only c.in_err-place.ensures.err)
+    (stops_then r.goes.stays (λ base o. place_on c.args.blocks.hint c.args.blocks.count c.in_ok-node.node c.args.coming.level c.args.coming.id c.args.bits.now c.args.found.now.lists c.args.found.now.picks c.in_ok-node.ensures.node base (on_1 base o)) (λ b k n full. full_then m.course b k n (full_as c.in_ok-node.node.level c.args.coming.level (ap (λ (x : NewNode). x.level) c.in_ok-node.ensures.node) full)) m.does m.is.only c.in_err-place.ensures.err)
     c.from_residual-in_err-place.ensures.1
 
 pub finish-requires-clause-params : goal.finish-requires-clause-params
