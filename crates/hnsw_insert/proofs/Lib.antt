@@ -1,0 +1,12 @@
+pub mod Quiet
+pub mod Made
+pub mod Stopped
+pub mod Lasts
+pub mod NewNode
+pub mod Joins
+pub mod Puts
+pub mod Under
+pub mod Finish
+pub mod AddedNode
+pub mod Gates
+pub mod OneRow

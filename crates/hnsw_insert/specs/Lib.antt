@@ -1,0 +1,4 @@
+pub mod Over
+pub mod Courses
+pub mod Parts
+pub mod Whole
