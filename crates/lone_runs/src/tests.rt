@@ -58,8 +58,14 @@ fn desk(alloc: Global) -> Result<LoneDesk<MemDisks>, Fail>
     Ok(LoneDesk::over(Board::from_loaded(alloc, disks, loaded)))
 }
 
-/// Inserts a row with this value, whose id has this offset, at level 0.
-fn row<S: Steps>(alloc: Global, steps: &mut S, text: &str, off: u16) -> Result<Inserted, Fail>
+/// Inserts a row with this value, whose id has this offset, by a word.
+fn row_of<S: Steps>(
+    alloc: Global,
+    steps: &mut S,
+    text: &str,
+    off: u16,
+    word: u64,
+) -> Result<Inserted, Fail>
     requires free { Holds (S.seen steps.old) (S.desk steps.old).number Update → ⊥ }
     ensures free { OnOk result (Holds (S.seen steps.new) (S.desk steps.new).number Update → ⊥) }
 {
@@ -75,7 +81,15 @@ fn row<S: Steps>(alloc: Global, steps: &mut S, text: &str, off: u16) -> Result<I
         block: 5,
         off: off.max(1),
     };
-    Ok(insert(alloc, steps, id, &bits, u64::MAX)?)
+    Ok(insert(alloc, steps, id, &bits, word)?)
+}
+
+/// The same at level 0.
+fn row<S: Steps>(alloc: Global, steps: &mut S, text: &str, off: u16) -> Result<Inserted, Fail>
+    requires free { Holds (S.seen steps.old) (S.desk steps.old).number Update → ⊥ }
+    ensures free { OnOk result (Holds (S.seen steps.new) (S.desk steps.new).number Update → ⊥) }
+{
+    row_of(alloc, steps, text, off, u64::MAX)
 }
 
 /// Inserts three rows of one value, whose ids have the offsets from this one on, and tells whether each joined a node.
@@ -104,6 +118,20 @@ fn is_link(act: &Act, at: u16, to: u16) -> bool {
             to: other,
             ..
         } => of == tid(at) && other == tid(to),
+        _ => false,
+    }
+}
+
+fn is_entry(act: &Act, to: u16, high: u8) -> bool {
+    match act.event {
+        Event::Entry { to: of, level } => of == Some(tid(to)) && level == high,
+        _ => false,
+    }
+}
+
+fn is_hint(act: &Act) -> bool {
+    match act.event {
+        Event::Hint { .. } => true,
         _ => false,
     }
 }
@@ -164,5 +192,26 @@ fn the_third_row_is_named_by_both_others(rt: HostRuntime) -> Result<(), Fail> {
         .filter(|act| is_link(act, 3, 5) || is_link(act, 1, 5))
         .count();
     assert!(rt; links == 2);
+    Ok(())
+}
+
+/// A row of level 1, above the entry point's, takes the gate alone, is linked in layer 0, and becomes the entry point. Its acts are
+/// the gate and its release, the gate, the Put, the link, the entry point, and the release. It moves no hint.
+#[test]
+fn a_taller_row_becomes_the_entry_point(rt: HostRuntime) -> Result<(), Fail> {
+    let alloc = rt.alloc();
+    let mut desk = desk(alloc)?;
+    row(alloc, &mut desk, "0000", 1)?;
+    let tall = row_of(alloc, &mut desk, "0011", 2, 1 << 62)?;
+    assert!(rt; tall.at == tid(3) && tall.level == 1 && !tall.joined);
+    assert!(rt; desk.front() == 13);
+    let board = desk.into_board();
+    let entered = board
+        .acts()
+        .iter()
+        .filter(|act| is_entry(act, 3, 1))
+        .count();
+    let hinted = board.acts().iter().filter(|act| is_hint(act)).count();
+    assert!(rt; entered == 1 && hinted == 0);
     Ok(())
 }
