@@ -29,4 +29,10 @@ pub use lone_desk::LoneDesk;
 pub use summary::Summary;
 
 #[cfg(test)]
+mod board_tests;
+#[cfg(test)]
+mod change_tests;
+#[cfg(test)]
 mod tests;
+#[cfg(test)]
+mod turn_tests;

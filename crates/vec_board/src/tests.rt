@@ -17,12 +17,12 @@ use vec_outside::Area;
 use vec_steps::{Ask, LOG_ROOM, StepFault, Told, Word};
 
 /// The meta tuple of a graph of four places with m 2: no entry point, the hint 1.
-const META: [u8; 32] = [
+pub const META: [u8; 32] = [
     0x56, 0x54, 0x49, 0x42, 2, 0, 1, 1, 4, 0, 0, 0, 2, 0, 4, 0, 0, 0, 0, 0, 0xff, 0xff, 0xff, 0xff,
     0, 0, 0, 0, 1, 0, 0, 0,
 ];
 
-fn graph() -> Params
+pub fn graph() -> Params
     ensures range { IsInRange result }
     ensures bits { result.bits ≡ 4 }
 {
@@ -37,7 +37,7 @@ fn graph() -> Params
 }
 
 /// The meta page, and an empty page.
-fn two_pages(alloc: Global) -> Result<PageList, Fail>
+pub fn two_pages(alloc: Global) -> Result<PageList, Fail>
     ensures { IfOk result (λ pages. vec_len pages.pages ≡ 2) }
 {
     let mut pages = Vec::with_capacity(alloc, 3)?;
@@ -49,13 +49,22 @@ fn two_pages(alloc: Global) -> Result<PageList, Fail>
 }
 
 /// The core of that index, whose next event has the number 5, with so much used of the log.
-fn core(alloc: Global, used: u64) -> Core
+pub fn core(alloc: Global, used: u64) -> Core
     requires { used ≤ 268435456 }
     ensures blocks { result.summary.blocks ≡ 2 }
     ensures bits { result.params.bits ≡ 4 }
 {
+    core_of(alloc, 2, used)
+}
+
+/// The same, of an index with so many blocks.
+pub fn core_of(alloc: Global, blocks: u32, used: u64) -> Core
+    requires { used ≤ 268435456 }
+    ensures blocks { result.summary.blocks ≡ blocks }
+    ensures bits { result.params.bits ≡ 4 }
+{
     let summary = Summary {
-        blocks: 2,
+        blocks,
         entry: None,
         level: 0,
         hint: 1,
@@ -69,7 +78,7 @@ fn taken(gate: Gate, hold: Hold) -> Event {
     Event::Gate { gate, hold }
 }
 
-fn number_on(pages: &PageList, block: usize) -> u64 {
+pub fn number_on(pages: &PageList, block: usize) -> u64 {
     match pages.pages.as_slice().get(block) {
         Some(page) => page.number(),
         None => 0,
@@ -197,7 +206,7 @@ fn a_phase_and_its_end(rt: HostRuntime) -> Result<(), Fail> {
     Ok(())
 }
 
-fn told_of(alloc: Global) -> Result<Told, Fail>
+pub fn told_of(alloc: Global) -> Result<Told, Fail>
     ensures { IfOk result (λ told. length told.bits ≡ 4) }
 {
     Ok(Told::make(alloc, graph())?)
