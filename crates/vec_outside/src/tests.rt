@@ -208,40 +208,29 @@ fn a_sync_is_of_one_area(rt: HostRuntime) -> Result<(), Fail> {
     Ok(())
 }
 
-const LOGGED: [Step; 4] = [
-    Put(Area::Log1, 0, &[1]),
-    Sync(Area::Log1),
-    Put(Area::Log1, 1, &[2]),
-    Sync(Area::Log1),
-];
-
-// How many of the steps are done where the disks stop after so many calls.
-fn done_before(disks: &mut MemDisks, last: u64) -> u64 {
-    disks.stop_after(last);
-    let mut done: u64 = 0;
-    for step in LOGGED {
-        if take(disks, step).is_ok() {
-            done = done.saturating_add(1);
-        }
-    }
-    done
-}
-
 #[test]
-fn calls_after_the_last_fail(rt: HostRuntime) -> Result<(), Fail> {
+fn chosen_calls_fail(rt: HostRuntime) -> Result<(), Fail> {
+    let steps = [
+        Put(Area::Log1, 0, &[1]),
+        Sync(Area::Log1),
+        Put(Area::Log1, 1, &[2]),
+        Sync(Area::Log1),
+    ];
     for last in 0..6 {
         let mut disks = MemDisks::empty(rt.alloc())?;
         assert_eq!(rt; disks.bytes(Area::Log0), [0; 40].as_slice());
-        assert_eq!(rt; done_before(&mut disks, last), last.min(4), "after {last}");
+        disks.stop_after(last);
+        let mut done: u64 = 0;
+        for step in steps {
+            if take(&mut disks, step).is_ok() {
+                done = done.saturating_add(1);
+            }
+        }
+        assert_eq!(rt; done, last.min(4), "after {last}");
         assert_eq!(rt; disks.faults(), 4 - last.min(4));
         let mut fresh = disks.crash(Choice::Lost)?;
         assert_eq!(rt; fresh.len(Area::Log1)?, 40);
     }
-    Ok(())
-}
-
-#[test]
-fn chosen_calls_fail(rt: HostRuntime) -> Result<(), Fail> {
     let mut disks = over(rt.alloc(), &[1, 2], &[3, 2, 3])?;
     assert_eq!(rt; disks.len(Area::Pages)?, 2);
     assert_eq!(rt; disks.len(Area::Pages), Err(Outage::Failed));
@@ -250,20 +239,16 @@ fn chosen_calls_fail(rt: HostRuntime) -> Result<(), Fail> {
     disks.read(Area::Pages, 0, &mut two)?;
     assert_eq!(rt; two, [1, 2]);
     assert_eq!(rt; disks.faults(), 2);
-    Ok(())
-}
-
-#[test]
-fn what_is_synced_stays(rt: HostRuntime) -> Result<(), Fail> {
-    let mut disks = over(rt.alloc(), &[1, 2], &[])?;
     write_synced(&mut disks, Area::Log0, 0, b"ab")?;
-    let left = disks.crash(Choice::Lost)?;
-    assert_eq!(rt; left.bytes(Area::Log0), b"ab".as_slice());
+    assert_eq!(rt;
+        disks.crash(Choice::Lost)?.bytes(Area::Log0),
+        b"ab".as_slice()
+    );
     Ok(())
 }
 
 #[test]
-fn a_source_in_memory(rt: HostRuntime) -> Result<(), Fail> {
+fn streams_in_memory(rt: HostRuntime) -> Result<(), Fail> {
     let mut source = MemSource::over(b"abcde".to_vec(rt.alloc())?, [2, 2].to_vec(rt.alloc())?);
     let mut piece = [0; 3];
     assert_eq!(rt; source.read(&mut piece)?, 3);
@@ -273,11 +258,6 @@ fn a_source_in_memory(rt: HostRuntime) -> Result<(), Fail> {
     assert_eq!(rt; source.read(&mut piece)?, 2);
     assert!(rt; piece.starts_with(b"de"));
     assert_eq!(rt; source.read(&mut piece)?, 0);
-    Ok(())
-}
-
-#[test]
-fn a_sink_in_memory(rt: HostRuntime) -> Result<(), Fail> {
     let mut sink = MemSink::over(b"x".to_vec(rt.alloc())?, [1].to_vec(rt.alloc())?);
     assert_eq!(rt; sink.write(b"lost"), Err(Outage::Failed));
     assert_eq!(rt; sink.write(b"")?, 0);
@@ -457,63 +437,38 @@ fn two_at_a_time(rt: HostRuntime) -> Result<(), Fail> {
 
 fn crosses<T: Send>(_: &T) {}
 
-// Makes files with these pages, which nobody holds any more, and tells how many calls failed.
-fn write_pages(rt: &HostRuntime) -> Result<u64, Fail> {
-    clear(rt);
-    let mut disks = FileDisks::make(rt);
+#[test]
+fn files_and_standard_streams(rt: HostRuntime) -> Result<(), Fail> {
+    clear(&rt);
+    let mut disks = FileDisks::make(&rt);
     crosses(&disks);
+    assert_eq!(rt; disks.len(Area::Log0)?, 40);
+    assert_eq!(rt; disks.len(Area::Pages)?, 0);
     disks.write_at(Area::Pages, 0, b"abcd")?;
     disks.write_at(Area::Pages, 3, b"xy")?;
     disks.sync(Area::Pages)?;
-    Ok(disks.faults())
-}
-
-#[test]
-fn files_that_were_written(rt: HostRuntime) -> Result<(), Fail> {
-    assert_eq!(rt; write_pages(&rt)?, 0);
+    assert_eq!(rt; disks.faults(), 0);
+    drop(disks);
     let mut disks = FileDisks::make(&rt);
     let mut back = [0; 4];
     disks.read(Area::Pages, 1, &mut back)?;
     assert_eq!(rt; back, *b"bcxy");
-    assert_eq!(rt; disks.len(Area::Pages)?, 5);
-    assert_eq!(rt; disks.len(Area::Log0)?, 40);
-    assert_eq!(rt; disks.faults(), 0);
-    clear(&rt);
-    Ok(())
-}
-
-// The file is shorter than asked, and than the place of a write.
-#[test]
-fn past_the_end_of_a_file(rt: HostRuntime) -> Result<(), Fail> {
-    assert_eq!(rt; write_pages(&rt)?, 0);
-    let mut disks = FileDisks::make(&rt);
-    let mut back = [0; 4];
+    // The file is shorter than asked, and than the place of a write.
     assert_eq!(rt; disks.read(Area::Pages, 2, &mut back), Err(Outage::Failed));
     assert_eq!(rt; disks.write_at(Area::Pages, 6, b"z"), Err(Outage::Failed));
     assert_eq!(rt; disks.len(Area::Pages)?, 5);
     assert_eq!(rt; disks.faults(), 2);
     drop(disks);
-    clear(&rt);
-    Ok(())
-}
-
-#[test]
-fn a_folder_in_place_of_a_file(rt: HostRuntime) -> Result<(), Fail> {
-    clear(&rt);
+    // A folder stands in place of a file.
+    fs::remove_file(&rt, "vec_pages.dat")?;
     fs::create_dir(&rt, "vec_pages.dat")?;
     let mut disks = FileDisks::make(&rt);
     assert_eq!(rt; disks.sync(Area::Pages), Err(Outage::Failed));
     assert_eq!(rt; disks.faults(), 1);
-    drop(disks);
     fs::remove_dir(&rt, "vec_pages.dat")?;
     clear(&rt);
-    Ok(())
-}
 
-// A test has nothing on its standard input.
-#[test]
-fn standard_streams(rt: HostRuntime) -> Result<(), Fail> {
-    let mut back = [0; 4];
+    // A test has nothing on its standard input.
     assert_eq!(rt; FileSource::make(&rt).read(&mut back)?, 0);
     assert_eq!(rt; FileSource::make(&rt).read(&mut [])?, 0);
     let mut sink = FileSink::make(&rt);
