@@ -22,11 +22,10 @@ use Rattle.vec_steps.specs.Doing.{Step, faulted}
 use Rattle.vec_steps.specs.Telling.{fault_step}
 use Rattle.vec_steps.specs.Desks.{Asks, Desk}
 use Rattle.vec_steps.specs.Calls.{Does, Failed, Happened, IsCause, IsLogFull, course_at}
-use Rattle.vec_steps.proofs.Following.{acts_longer, does_nothing, does_over, does_then, fault_does, steps_both}
+use Rattle.vec_steps.proofs.Following.{acts_longer, does_nothing, does_then, fault_does}
 use Rattle.layer_search.proofs.Steadiness.{all_both}
 use Rattle.hnsw_vacuum.specs.Courses.{IsRoomless, IsWhy, OverGraphs}
-use Rattle.hnsw_vacuum.specs.Dropping.{IsDeadDrop, IsOfRemove, Removes, Removing, StopsBy, TakesDead}
-use Rattle.vec_steps.specs.Calls.{steps_of}
+use Rattle.hnsw_vacuum.specs.Dropping.{IsDeadDrop, IsOfRemove, Removing, StopsBy, TakesDead}
 
 -- ---- bases
 
@@ -69,24 +68,6 @@ module _ (J : HeapId → Bool → Type 0) where
 
   pub removing_none : {over : Index → Type 0} {d : Desk} (acts : List Act) → Removing J over d acts acts []
   removing_none acts = record { does = does_nothing acts; only = tt; dead = λ base o. tt }
-
-  pub removing_over : {more fewer : Index → Type 0} {d : Desk} {old new : List Act} {a : List (ℕ × Step)} → ((base : Index) → fewer base → more base)
-      → Removing J more d old new a → Removing J fewer d old new a
-  removing_over on x = record { does = does_over on x.does; only = x.only; dead = λ base o. x.dead base (on base o) }
-
-  -- what was done first and what then
-  pub removes_then : {over later : Index → Type 0} {d e : Desk} {old mid new : List Act} {P Q R : List Step → Type 0} → e ≡ d
-      → ((base : Index) → over base → later base) → ((a b : List Step) → P a → Q b → R (a ++ b)) → Removes J over d old mid P
-      → Removes J later e mid new Q → Removes J over d old new R
-  removes_then {R = R} same on both x y = record {
-    course = x.course ++ y.course;
-    made = removing_then same on x.made y.made;
-    is = subst R (sym (steps_both x.course y.course)) (both (steps_of x.course) (steps_of y.course) x.is y.is);
-  }
-
-  pub removes_over : {more fewer : Index → Type 0} {d : Desk} {old new : List Act} {P : List Step → Type 0} → ((base : Index) → fewer base → more base)
-      → Removes J more d old new P → Removes J fewer d old new P
-  removes_over on x = record { course = x.course; made = removing_over on x.made; is = x.is }
 
   -- ---- a step that failed
 
@@ -156,22 +137,6 @@ module _ (J : HeapId → Bool → Type 0) where
       → Removing J over d old new a → StopsBy J over d old new end
   stops_memory {over} {d} {old} {new} {a} end is x =
       subst (StopsBy J over d old new) (sym is) (let s : StopsBy J over d old new op.Memory = record { course = a; made = x; why = tt } in s)
-
-  why_over : (more fewer : Index → Type 0) (d : Desk) (old new : List Act) (a : List (ℕ × Step)) → ((base : Index) → fewer base → more base)
-      → (end : OpFault) → IsWhy more d old new a end → IsWhy fewer d old new a end
-  why_over more fewer d old new a on op.Memory w = tt
-  why_over more fewer d old new a on (op.Full blocks need) w = w
-  why_over more fewer d old new a on (op.LogFull used size) w = λ base o. w base (on base o)
-  why_over more fewer d old new a on (op.Disk count) w = w
-  why_over more fewer d old new a on (op.Dimensions got want) w = w
-
-  pub stops_over : {more fewer : Index → Type 0} {d : Desk} {old new : List Act} {end : OpFault} → ((base : Index) → fewer base → more base)
-      → StopsBy J more d old new end → StopsBy J fewer d old new end
-  stops_over {more} {fewer} {d} {old} {new} {end} on b = record {
-    course = b.course;
-    made = removing_over on b.made;
-    why = why_over more fewer d old new b.course on end b.why;
-  }
 
 -- what an error that is handed on ended by
 pub handed : {T E : Type 0} (P : E → Type 0) {x : E} (r : Result T E) → P x → IsErrAnd r (λ e. e ≡ x) → IfErr r P

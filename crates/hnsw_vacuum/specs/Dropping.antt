@@ -1,5 +1,5 @@
 -- What the first pass of a vacuum does: rows that the test calls dead are taken out of the nodes that pages tell.
-use Rattle.std.specs.Prelude.{◌≡◌, ◌≤◌, ◌+◌, ⊤, ℕ, zero, suc, Bool, true, false, List, [], ◌∷◌, ◌++◌, Some}
+use Rattle.std.specs.Prelude.{◌≡◌, ◌+◌, ⊤, ℕ, zero, suc, Bool, true, false, List, [], ◌∷◌, ◌++◌, Some}
 use Rattle.std.specs.List.{AllByRecursion}
 use Rattle.vec_names.specs.declared.tid.Tid.{Tid}
 use Rattle.vec_names.specs.declared.heap_id.HeapId.{HeapId}
@@ -11,7 +11,7 @@ use Rattle.vec_graph.specs.declared.graph.Graph.{Graph}
 use Rattle.vec_graph.specs.Graph.{node_at}
 use Rattle.vec_graph.specs.Effect.{after, state_after}
 use Rattle.vec_graph.specs.Rules.{IsThere}
-use Rattle.graph_search.specs.Reads.{Seen, AtPage, OfPage}
+use Rattle.graph_search.specs.Reads.{Seen, AtPage}
 use Rattle.graph_search.specs.Deeds.{looked}
 use Rattle.vec_steps.specs.declared.fault.OpFault.{OpFault}
 use Rattle.vec_steps.specs.Index.{Index, OfNodes, OfLists}
@@ -49,11 +49,6 @@ pub record MayDropAll (base : Graph) (acts : List Act) (desk : ℕ) (seen : List
   pub phase : IsInPhase acts desk Remove
   pub stand : AllByRecursion (StandsTold (after base acts)) seen
   pub apart : AreSeenApart seen
-
--- the desk's phase Remove stands, and there are so many blocks
-pub record MayRemove (base : Graph) (acts : List Act) (desk count : ℕ) : Type 0 where
-  pub phase : IsInPhase acts desk Remove
-  pub there : count ≤ (after base acts).blocks
 
 -- ---- only the dead
 
@@ -146,15 +141,3 @@ pub record DropsNothing (removed : ℕ) (steps : List Step) : Type 0 where
 abbrev pub DropsNodes : (HeapId → Bool → Type 0) → List Seen → ℕ → List Step → Type 0
 DropsNodes Judged [] removed steps = DropsNothing removed steps
 DropsNodes Judged (s ∷ seen) removed steps = InTurn (DropsNode Judged s) (DropsNodes Judged seen) removed steps
-
--- a page was looked at, and what is dead of its nodes was dropped
-pub record DropsPage (Judged : HeapId → Bool → Type 0) (block removed : ℕ) (steps : List Step) : Type 0 where
-  pub nodes : List Seen
-  pub drops : List Step
-  pub is : DropsNodes Judged nodes removed drops
-  pub steps_are : steps ≡ did (looked (AtPage block) (OfPage nodes)) ∷ drops
-
--- so many pages, from this block on
-abbrev pub DropsPages : (HeapId → Bool → Type 0) → ℕ → ℕ → ℕ → List Step → Type 0
-DropsPages Judged block zero removed steps = DropsNothing removed steps
-DropsPages Judged block (suc k) removed steps = InTurn (DropsPage Judged block) (DropsPages Judged (suc block) k) removed steps
