@@ -1,0 +1,5 @@
+pub mod Masking
+pub mod Lasts
+pub mod Stopped
+pub mod Drops
+pub mod InOrder
