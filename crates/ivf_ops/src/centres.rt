@@ -35,7 +35,7 @@ fn put_nears(nears: &mut Vec<Near>, query: &Bits, centres: &[Centre]) -> Result<
     ensures memory { IfErr result (λ e. e ≡ Memory) }
 {
     for centre in centres {
-        // Never over a base: each centre has the index's length.
+        // Never over a base, where the value has the index's length: each centre has it too.
         if centre.bits.count() != query.count() {
             return Err(OpFault::Memory);
         }
@@ -49,7 +49,12 @@ fn put_nears(nears: &mut Vec<Near>, query: &Bits, centres: &[Centre]) -> Result<
     Ok(())
 }
 
-/// Looks at all blocks of centres, from block 1 on: how near each list is to the query.
+/// Looks at all blocks of centres, from block 1 on: how near each list is to a value of the index's length, as pgvector's `ivfflat`
+/// finds the lists of a scan or of a new row.
+///
+/// `told` was made for the index. The lists come in the order of their centres, and the looks to the end of `trace`, each by its
+/// position. It makes no act. Its errors are `Memory`, also where a centre has another length than the value, and `Disk` where a step
+/// met a fault of the disks, which leaves an act.
 pub fn read_centres<S: Steps>(
     alloc: Global,
     steps: &mut S,
@@ -63,7 +68,8 @@ pub fn read_centres<S: Steps>(
     ensures goes { Goes S.desk S.stands S.comes_from (S.stands steps.old) steps.old steps.new }
     ensures bits { length told.new.bits ≡ (S.desk steps.old).params.bits }
     ensures ok { IfOk result (λ nears. ReadsCentres (S.stands steps.old) (S.desk steps.old) (S.seen steps.old) (S.seen steps.new)
-        trace.old.reads trace.new.reads query.now (centre_pages (S.desk steps.old).params.bits (S.desk steps.old).params.lists) nears.items) }
+        trace.old.reads trace.new.reads query.now
+        (centre_pages (S.desk steps.old).params.bits (S.desk steps.old).params.lists) nears.items) }
     ensures err { IfErr result (EndedBy (S.stands steps.old) (S.desk steps.old) (S.seen steps.old) (S.seen steps.new)) }
 {
     let pages = pages_of(steps.params());
@@ -75,7 +81,8 @@ pub fn read_centres<S: Steps>(
     Ok(nears)
 }
 
-/// The nearest of these lists, so many, or all where there are fewer: of two as near that of the lower number comes first.
+/// The nearest of these lists, so many, or all where there are fewer: of two as near that of the lower number comes first. Its error is
+/// want of memory.
 pub fn nearest_of(nears: Vec<Near>, probes: u32) -> Result<Vec<Near>, AllocError>
     ensures { IfOk result (λ lists. lists.items ≡ nearest_lists probes nears.items) }
 {
