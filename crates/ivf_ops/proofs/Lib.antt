@@ -1,0 +1,4 @@
+pub mod Views
+pub mod Asking
+pub mod Nearest
+pub mod OverLists
