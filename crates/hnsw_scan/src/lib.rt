@@ -15,6 +15,3 @@ pub use answer::{Answer, Mode};
 pub use batches::{Begun, Gathered, Wish};
 pub use gated::{first_gated, next_gated};
 pub use law::law_rows;
-
-#[cfg(test)]
-mod tests;
