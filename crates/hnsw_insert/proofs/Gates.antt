@@ -37,20 +37,20 @@ use Rattle.hnsw_insert.proofs.Stopped.{never_refused, stops_as, stops_before, st
 
 -- ---- gates as deeds
 
-pub went_take : {over : Index → Type 0} {d : Desk} {old new : List Act} {gate : Gate} {hold : Hold} → TakesGate over d old new gate hold → (trace : List ℕ)
-    → Went over d old new trace trace (asked (Takes gate hold) Done ∷ [])
-went_take {gate = gate} {hold = hold} t trace = record {
-  course = (t.at, did (asked (Takes gate hold) Done)) ∷ [];
+pub went_take : {over : Index → Type 0} {d : Desk} {old new : List Act} {hold : Hold} → TakesGate over d old new Update hold → (trace : List ℕ)
+    → Went over d old new trace trace (asked (Takes Update hold) Done ∷ [])
+went_take {hold = hold} t trace = record {
+  course = (t.at, did (asked (Takes Update hold) Done)) ∷ [];
   does = t.does;
-  is = record { are = (refl, tt); traced = sym (append-nil trace) };
+  is = record { are = (refl, tt); only = (refl, tt); traced = sym (append-nil trace) };
 }
 
-pub went_back : {over : Index → Type 0} {d : Desk} {old new : List Act} {gate : Gate} → GivesBack over d old new gate → (trace : List ℕ)
-    → Went over d old new trace trace (asked (Releases gate) Done ∷ [])
-went_back {gate = gate} t trace = record {
-  course = (t.at, did (asked (Releases gate) Done)) ∷ [];
+pub went_back : {over : Index → Type 0} {d : Desk} {old new : List Act} → GivesBack over d old new Update → (trace : List ℕ)
+    → Went over d old new trace trace (asked (Releases Update) Done ∷ [])
+went_back t trace = record {
+  course = (t.at, did (asked (Releases Update) Done)) ∷ [];
   does = t.does;
-  is = record { are = (refl, tt); traced = sym (append-nil trace) };
+  is = record { are = (refl, tt); only = (refl, tt); traced = sym (append-nil trace) };
 }
 
 pub taken_holds : {over : Index → Type 0} {d : Desk} {old new : List Act} {gate : Gate} {hold : Hold} → TakesGate over d old new gate hold → Holds new d.number gate
@@ -150,7 +150,7 @@ fault_taken {under = under} {e = e} {mid = mid} {amid = amid} {hold = hold} {fau
       under = b;
       full = full;
       course_is = refl;
-    }) t.does (tt, tt) g
+    }) t.does (refl, tt) g
 
 module _ {over under behind : Index → Type 0} {d e f : Desk} {old mid amid new : List Act} {hold : Hold} (level : ℕ) (same_1 : e ≡ d) (same_2 : f ≡ e)
     (on_1 : (base : Index) → over base → under base) (on_2 : (base : Index) → under base → behind base) (t : TakesGate over d old mid Update hold) where
@@ -158,7 +158,7 @@ module _ {over under behind : Index → Type 0} {d e f : Desk} {old mid amid new
   pub fault_given : {fault : OpFault} → StopsBy IsUnderGate (IsFullUnder hold level) under e mid amid fault → GivesBack behind f amid new Update
       → StopsBy IsOfInsert (IsFullHeld hold level) over d old new fault
   fault_given s b =
-      stops_before (same_2 ∙ same_1) (λ base o. on_2 base (on_1 base o)) (λ a m n full. end_held hold level a _ m n full) (fault_taken level same_1 on_1 t s) b.does (tt, tt)
+      stops_before (same_2 ∙ same_1) (λ base o. on_2 base (on_1 base o)) (λ a m n full. end_held hold level a _ m n full) (fault_taken level same_1 on_1 t s) b.does (refl, tt)
 
   -- or this failed too
   pub fault_kept : {fault : OpFault} (other : OpFault) → StopsBy IsUnderGate (IsFullUnder hold level) under e mid amid fault → GateFailed behind f amid new other
@@ -174,7 +174,7 @@ module _ {over under behind : Index → Type 0} {d e f : Desk} {old mid amid new
       let g : StopsBy IsOfInsert NeverFull behind f amid new fault = gate_stops b in
       let w : StopsBy IsOfInsert NeverFull under e mid new fault =
       stops_then same_2 on_2 (λ c k n full. absurd full) m.does (all_of_insert m.course m.is.only) g in
-      stops_then same_1 on_1 (λ c k n full. absurd full) t.does (tt, tt) w
+      stops_then same_1 on_1 (λ c k n full. absurd full) t.does (refl, tt) w
 
 -- what was done under the gate
 pub under_did : {under : Index → Type 0} {e : Desk} {mid amid : List Act} {before now : List ℕ} (hold : Hold) (n : Newcomer) (id : HeapId) (o : Option Landing)
@@ -308,21 +308,12 @@ full_alone level t a m n h =
           ∙ ap (λ (l : List (ℕ × Step)). l ++ h.behind) (sym (append_assoc first (h.taken ++ u.look) u.rest));
     }
 
-all_any : (course : List (ℕ × Step)) (ds : List Deed) → AreDeeds course ds → AllByRecursion (λ s. IsOfInsert s.1) course
-all_any [] ds are = tt
-all_any (s ∷ course) [] are = absurd are
-all_any (s ∷ course) (x ∷ ds) are = (subst IsOfInsert (sym are.0) tt, all_any course ds are.1)
-
-pub went_only : {over : Index → Type 0} {d : Desk} {old new : List Act} {before now : List ℕ} {ds : List Deed} (w : Went over d old new before now ds)
-    → AllByRecursion (λ s. IsOfInsert s.1) w.course
-went_only {ds = ds} w = all_any w.course ds w.is.are
-
 -- the second time
 pub stops_alone : {over later : Index → Type 0} {d e : Desk} {old mid new : List Act} {before now : List ℕ} {level : ℕ} {fault : OpFault} → e ≡ d
     → ((base : Index) → over base → later base) → TurnsBack over d old mid before now Shared level
     → StopsBy IsOfInsert (IsFullHeld Alone level) later e mid new fault → StopsBy IsOfInsert (IsFull level) over d old new fault
 stops_alone {level = level} same on t s =
-    stops_then same on (λ b m n full. full_alone level t b m n full) t.made.does (went_only t.made) s
+    stops_then same on (λ b m n full. full_alone level t b m n full) t.made.does t.made.is.only s
 
 -- ---- the end of an insert
 

@@ -17,7 +17,8 @@ use Rattle.layer_search.specs.Looking.{MadeLooks}
 use Rattle.layer_search.specs.Linking.{IsLinkStep, MadeLinks}
 use Rattle.layer_search.proofs.Looks.{looks_are}
 use Rattle.layer_search.proofs.Steadiness.{all_both}
-use Rattle.hnsw_insert.specs.Courses.{Did, DidSo, IsUnderGate, Went, WentSo}
+use Rattle.hnsw_insert.specs.Courses.{Did, DidSo, IsOfInsert, IsUnderGate, Went, WentSo}
+use Rattle.hnsw_insert.proofs.Quiet.{all_of_insert}
 
 pub positions_both : (a b : List (ℕ × Step)) → look_positions (a ++ b) ≡ look_positions a ++ look_positions b
 positions_both a b =
@@ -133,6 +134,7 @@ went_both : (ds es : List Deed) (before amid now : List ℕ) (a b : List (ℕ ×
     → WentSo (ds ++ es) before now (a ++ b)
 went_both ds es before amid now a b x y = record {
   are = deeds_both a b ds es x.are y.are;
+  only = all_both (λ (s : ℕ × Step). IsOfInsert s.1) a b x.only y.only;
   traced = traced_both a b before amid now x.traced y.traced;
 }
 
@@ -144,7 +146,7 @@ went_then {before = before} {amid = amid} {now = now} {ds = ds} {es = es} same o
 
 pub went_did : {over : Index → Type 0} {d : Desk} {old new : List Act} {before now : List ℕ} {ds : List Deed} → Did over d old new before now ds
     → Went over d old new before now ds
-went_did x = does_so_as (λ course p. record { are = p.are; traced = p.traced }) x
+went_did x = does_so_as (λ course p. record { are = p.are; only = all_of_insert course p.only; traced = p.traced }) x
 
 pub went_over : {more fewer : Index → Type 0} {d : Desk} {old new : List Act} {before now : List ℕ} {ds : List Deed}
     → ((base : Index) → fewer base → more base) → Went more d old new before now ds → Went fewer d old new before now ds

@@ -2,6 +2,7 @@
 use Rattle.std.specs.Prelude.{◌≡◌, ◌≤◌, ⊤, ℕ, List, ◌∷◌, ◌++◌, length, take}
 use Rattle.std.specs.List.{AllByRecursion}
 use Rattle.vec_history.specs.declared.event.Act.{Act}
+use Rattle.vec_history.specs.declared.gate.Gate.TheVariants.{Update}
 use Rattle.graph_search.specs.Deeds.{Deed, asked, Takes, Releases}
 use Rattle.vec_steps.specs.declared.ask.Ask.{Ask}
 use Rattle.vec_steps.specs.declared.fault.OpFault.{OpFault}
@@ -14,9 +15,11 @@ use Rattle.step_gates.specs.Gating.{GateFailed}
 
 -- ---- steps
 
--- A step of an insert: a look, a change of a row, a link, the entry point or the hint, a gate; no block was left; the disks failed. No
--- phase of a vacuum begins by it.
+-- A step of an insert: a look, a change of a row, a link, the entry point or the hint, the gate Update; no block was left; the disks
+-- failed. No phase of a vacuum begins by it.
 abbrev pub IsOfInsert : Step → Type 0
+IsOfInsert (did (asked (Takes gate hold) reply)) = gate ≡ Update
+IsOfInsert (did (asked (Releases gate) reply)) = gate ≡ Update
 IsOfInsert (did deed) = ⊤
 IsOfInsert (overfull node blocks need) = ⊤
 IsOfInsert (viewed look told) = ⊤
@@ -45,9 +48,10 @@ pub record DidSo (deeds : List Deed) (before now : List ℕ) (course : List (ℕ
 abbrev pub Did : (Index → Type 0) → Desk → List Act → List Act → List ℕ → List ℕ → List Deed → Type 0
 Did over d old new before now deeds = DoesSo (DidSo deeds before now) over d old new
 
--- the same with gates
+-- the same with the gate of an insert
 pub record WentSo (deeds : List Deed) (before now : List ℕ) (course : List (ℕ × Step)) : Type 0 where
   pub are : AreDeeds course deeds
+  pub only : AllByRecursion (λ s. IsOfInsert s.1) course
   pub traced : now ≡ before ++ look_positions course
 
 abbrev pub Went : (Index → Type 0) → Desk → List Act → List Act → List ℕ → List ℕ → List Deed → Type 0

@@ -5,6 +5,7 @@ use Rattle.vec_names.specs.Levels.{level_of}
 use Rattle.vec_history.specs.declared.event.Event.{Event}
 use Rattle.vec_history.specs.declared.event.Event.TheVariants as event
 use Rattle.vec_history.specs.declared.event.Act.{Act}
+use Rattle.vec_history.specs.declared.gate.Gate.{Gate}
 use Rattle.vec_history.specs.declared.gate.Gate.TheVariants.{Update}
 use Rattle.vec_history.specs.Gates.{Holds}
 use Rattle.graph_search.specs.Deeds.{Deed, Done, Releases, asked, is_of_row, own_events}
@@ -76,6 +77,11 @@ pub record IsFull (level : ℕ) (course : List (ℕ × Step)) (blocks need : ℕ
 -- the desk holds the gate no more; or to release it failed
 abbrev pub GivesGate : (Index → Type 0) → Desk → List Act → Type 0
 GivesGate over d new = (Holds new d.number Update → ⊥) ⊎ KeepsGate over d new
+
+-- Of the gates but Update the desk holds just those that it held.
+abbrev pub KeepsOtherGates : ℕ → List Act → List Act → Type 0
+KeepsOtherGates desk old new = (gate : Gate) → (gate ≡ Update → ⊥)
+    → (Holds old desk gate → Holds new desk gate) × (Holds new desk gate → Holds old desk gate)
 
 -- How a fault ends an insert of a value of so many places, of a row with this level. `Dimensions` comes just where the index's values have
 -- another number of places, and then nothing was done.

@@ -12,7 +12,7 @@ ghost use Rattle.layer_search.specs.Listing.{newcomer_in};
 ghost use Rattle.hnsw_insert.specs.Over.{OverNodes};
 ghost use Rattle.hnsw_insert.specs.Courses.{IsOfInsert, StopsBy};
 ghost use Rattle.hnsw_insert.specs.Parts.{IsFullHeld, RunsHeld};
-ghost use Rattle.hnsw_insert.specs.Whole.{FailsSo, GivesGate, Inserts, InsertsOnce, IsFull};
+ghost use Rattle.hnsw_insert.specs.Whole.{FailsSo, GivesGate, Inserts, InsertsOnce, IsFull, KeepsOtherGates};
 
 use crate::course::run_under;
 use crate::landing::{Coming, Inserted, Landing};
@@ -114,7 +114,7 @@ fn insert_once<S: Steps>(
 /// Its errors: `Dimensions`, just where the value has another length than those of the index, and then nothing was done; `Full`, where
 /// each block from the hint on had no room and the index has as many blocks as it may; `LogFull`, where the log had no room for an
 /// event; `Disk`, which leaves an act; and `Memory`. At each the own acts show which deeds were made, and the gate is given back,
-/// unless that step itself failed.
+/// unless that step itself failed. Of other gates the desk holds at every end just what it held.
 pub fn insert<S: Steps>(
     alloc: Global,
     steps: &mut S,
@@ -129,6 +129,7 @@ pub fn insert<S: Steps>(
     ensures ok { IfOk result (Inserts (S.stands steps.old) (S.desk steps.old) (S.seen steps.old) (S.seen steps.new) id bits.now word) }
     ensures fits { OnOk result (length bits.now ≡ (S.desk steps.old).params.bits) }
     ensures free { OnOk result (Holds (S.seen steps.new) (S.desk steps.old).number Update → ⊥) }
+    ensures others { KeepsOtherGates (S.desk steps.old).number (S.seen steps.old) (S.seen steps.new) }
     ensures err { IfErr result (FailsSo (S.stands steps.old) (S.desk steps.old) (S.seen steps.old) (S.seen steps.new)
         (length bits.now) (level_of word (S.desk steps.old).params.m)) }
 {

@@ -6,6 +6,7 @@ use Rattle.vec_steps.proofs.Following.{goes_over}
 use Rattle.layer_search.proofs.Looks.{fails}
 use Rattle.hnsw_insert.specs.Whole.{IsFull}
 use Rattle.hnsw_insert.proofs.Lasts.{nodes_of}
+use Rattle.hnsw_insert.proofs.Quiet.{others_stay}
 use Rattle.hnsw_insert.proofs.Stopped.{handed, stops_as}
 use Rattle.hnsw_insert.proofs.Gates.{fails_so, first_fails, gives_over, inserted_so, level_low, once_over}
 use Rattle.hnsw_insert.proofs.inserting.insert.Goals as goal
@@ -51,3 +52,9 @@ returns-clause-ok g c =
     let on = λ (base : Index) (st : g.S.Steps.stands s0 base). nodes_of (g.S.Steps.desk s0).params c.requires.nodes base (g.met.S.Steps.index s0 base st) st in
     let level_is = c.level_of.ensures ∙ ap (λ (p : Params). level_of c.args.word p.m) c.params-params.ensures in
     inserted_so c.args.id c.args.bits.now c.args.word c.level_of.result c.in_ok-landing.landing _ c.new.ensures level_is refl (once_over on c.in_ok-landing.ensures.ok)
+
+pub returns-in_err-landing-clause-others : goal.returns-in_err-landing-clause-others
+returns-in_err-landing-clause-others g c = others_stay c.in_err-landing.ensures.err.does c.in_err-landing.ensures.err.only
+
+pub returns-clause-others : goal.returns-clause-others
+returns-clause-others g c = others_stay c.in_ok-landing.ensures.ok.made.does c.in_ok-landing.ensures.ok.made.is.only
