@@ -1,0 +1,9 @@
+pub mod Left
+pub mod PagesBefore
+pub mod Judged
+pub mod Extending
+pub mod RedoneBlocks
+pub mod RedoneEvents
+pub mod Marking
+pub mod Rebuilt
+pub mod Opened
