@@ -5,3 +5,5 @@ pub mod Quiet
 pub mod Under
 pub mod Starting
 pub mod Sight
+pub mod Spending
+pub mod Unharmed

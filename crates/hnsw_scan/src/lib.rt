@@ -9,9 +9,13 @@ mod batches;
 mod gated;
 mod law;
 mod rows;
+mod scanning;
+mod state;
 mod taking;
 
 pub use answer::{Answer, Mode};
 pub use batches::{Begun, Gathered, Wish};
 pub use gated::{first_gated, next_gated};
-pub use law::law_rows;
+pub use law::{law_first_reads, law_rows};
+pub use scanning::{Batch, first, next};
+pub use state::ScanState;
