@@ -56,7 +56,8 @@ fn place(at: Tid, list_at: Tid, version: u8) -> Place
     }
 }
 
-fn is_event_allowed(course: &Course<'_>, desk: u32, event: &Event) -> bool
+/// Whether the rules allow that the desk makes this event after the acts of the course.
+pub fn is_event_allowed(course: &Course<'_>, desk: u32, event: &Event) -> bool
     ensures { IsTrue result ↔ IsEventAllowed course.now.base.now course.now.acts.now desk event.now }
 {
     match event {
@@ -112,6 +113,17 @@ fn is_event_allowed(course: &Course<'_>, desk: u32, event: &Event) -> bool
         Event::Settled { upto } => may_settle(course.acts, *upto),
         Event::DiskFaulted { count } => may_fault(course.acts, *count),
     }
+}
+
+/// The graphs that a history goes through, in memory of their own: the base, and the graph after each act.
+pub fn states_of(alloc: Global, base: &Graph, acts: &[Act]) -> Result<Vec<Graph>, AllocError>
+    ensures { IfOk result (λ states. AreStates base.now acts.now states.items) }
+{
+    let mut states = first_states(base, alloc)?;
+    for k in 0..acts.len() {
+        add_state(base, &acts[..k], &mut states, &acts[k], alloc)?;
+    }
+    Ok(states)
 }
 
 // The graph after one more act, in memory of its own.

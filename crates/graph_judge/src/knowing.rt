@@ -13,7 +13,7 @@ use vec_history::{Gate, hold_of};
 use vec_names::{Listed, Tid};
 
 /// Whether the desk knows the node at the place up to the layer, after these acts.
-pub(crate) fn knows(course: &Course<'_>, desk: u32, at: Tid, layer: u32) -> bool
+pub fn knows(course: &Course<'_>, desk: u32, at: Tid, layer: u32) -> bool
     ensures { IsTrue result ↔ Knows course.now.base.now course.now.acts.now desk at layer }
 {
     match hold_of(course.acts, desk, Gate::Update) {
@@ -47,7 +47,7 @@ pub(crate) fn layer_of_slot(m: u16, level: u8, slot: usize) -> u32
 
 /// Whether the desk knows each member of each layer that these slots of a node of this level name, up to
 /// that layer.
-pub(crate) fn knows_members(
+pub fn knows_members(
     course: &Course<'_>,
     desk: u32,
     level: u8,

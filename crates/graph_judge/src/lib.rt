@@ -14,7 +14,9 @@ mod linking_rules;
 mod node_rules;
 mod vacuum_rules;
 
-pub use audit::audit_hnsw;
+pub use audit::{audit_hnsw, is_event_allowed, states_of};
+pub use course::Course;
+pub use knowing::{knows, knows_members};
 pub use vec_history::AuditFault;
 
 #[cfg(test)]

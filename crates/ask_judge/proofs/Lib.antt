@@ -1,0 +1,2 @@
+mod AskedNodes
+pub mod LaterAsks
