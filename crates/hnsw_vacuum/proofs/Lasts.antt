@@ -1,5 +1,5 @@
 -- What lasts in the first pass of a vacuum: its phase, nodes as they were seen, and blocks.
-use Rattle.std.proofs.Common.{◌≡◌, ◌≢◌, ◌⊎◌, inl, inr, ℕ, ◌≤◌, List, length, take, sym, ap, subst, ◌∙◌, arith}
+use Rattle.std.proofs.Common.{◌≡◌, ◌≢◌, ◌⊎◌, inl, inr, ℕ, ◌≤◌, List, [], ◌∷◌, length, take, sym, ap, subst, ◌∙◌, arith}
 use Rattle.std.proofs.lemmas.List.{length-take-le, take-take}
 use Rattle.std.proofs.lemmas.Option.{slice_get_within, same_Some}
 use Rattle.list_values.proofs.Parts.{in_order, in_whole}
@@ -17,8 +17,10 @@ use Rattle.vec_graph.specs.declared.graph.Graph.{Graph}
 use Rattle.vec_graph.specs.Shaped.{IsShaped}
 use Rattle.vec_graph.specs.Places.{IsOnBlocks}
 use Rattle.vec_graph.specs.Legal.{IsAllowed, IsLegal}
-use Rattle.vec_graph.specs.Effect.{after, state_after}
+use Rattle.vec_graph.specs.Effect.{after, effect, state_after, joined, linked, relisted, dropped, marked}
 use Rattle.vec_graph.specs.Lasting.{IsDropAt, IsIdsEndAt}
+use Rattle.vec_graph.proofs.Levels.{after_append}
+use Rattle.vec_graph.proofs.Remaining.{blocks_changed}
 use Rattle.vec_graph.proofs.Shaping.{on_blocks_of, shaped_after}
 use Rattle.vec_graph.proofs.Lasting.{stays_same, stays_with_ids}
 use Rattle.vec_graph.proofs.Vacuuming.{no_drop, no_mark, phase_stays}
@@ -104,3 +106,38 @@ module _ (g : Graph) {desk : ℕ} {old new : List Act} {es : List Event} (legal 
           more = now.more;
           front = now.front;
         }
+
+-- ---- blocks never go away
+
+more_blocks : (e : Event) (g : Graph) → g.blocks ≤ (effect 255 e g).blocks
+more_blocks (event.Put at list_at version level id bits lists) g = omega arith
+more_blocks (event.Join at version id) g = let s = blocks_changed g at (joined id) in omega (arith, s)
+more_blocks (event.Link at list_at version slot to) g = let s = blocks_changed g at (linked slot to) in omega (arith, s)
+more_blocks (event.Relist at list_at version lists) g = let s = blocks_changed g at (relisted lists) in omega (arith, s)
+more_blocks (event.Drop at version gone) g = let s = blocks_changed g at (dropped gone) in omega (arith, s)
+more_blocks (event.Mark at list_at version) g = let s = blocks_changed g at (marked 255) in omega (arith, s)
+more_blocks (event.Entry to level) g = omega arith
+more_blocks (event.Hint block) g = omega arith
+more_blocks (event.IvfAdd block id bits) g = omega arith
+more_blocks (event.IvfGrow list last block id bits) g = omega arith
+more_blocks (event.IvfDrop block gone) g = omega arith
+more_blocks (event.IvfHint list block) g = omega arith
+more_blocks (event.Gate gate hold) g = omega arith
+more_blocks (event.Ungate gate) g = omega arith
+more_blocks (event.Phase stage) g = omega arith
+more_blocks event.VacuumEnd g = omega arith
+more_blocks (event.Cancel stage) g = omega arith
+more_blocks (event.Settled upto) g = omega arith
+more_blocks (event.DiskFaulted count) g = omega arith
+
+blocks_along : (g : Graph) (acts : List Act) → g.blocks ≤ (after g acts).blocks
+blocks_along g [] = omega arith
+blocks_along g (a ∷ acts) =
+    let one = more_blocks a.event g in
+    let rest = blocks_along (effect 255 a.event g) acts in
+    omega (arith, one, rest)
+
+pub blocks_last : (g : Graph) {desk : ℕ} {old new : List Act} {es : List Event} → Acts desk old new es → (after g old).blocks ≤ (after g new).blocks
+blocks_last g {old = old} {new = new} x =
+    subst (λ (l : List Act). (after g old).blocks ≤ (after g l).blocks) (sym x.all)
+    (subst (λ (h : Graph). (after g old).blocks ≤ h.blocks) (sym (after_append g old x.more)) (blocks_along (after g old) x.more))

@@ -9,17 +9,17 @@ use Rattle.vec_history.specs.Phases.{IsInPhase}
 use Rattle.vec_graph.specs.declared.node.Node.{Node}
 use Rattle.vec_graph.specs.declared.graph.Graph.{Graph}
 use Rattle.vec_graph.specs.Graph.{node_at}
-use Rattle.vec_graph.specs.Effect.{after, state_after}
+use Rattle.vec_graph.specs.Effect.{after}
 use Rattle.vec_graph.specs.Rules.{IsThere}
-use Rattle.graph_search.specs.Reads.{Seen, AtPage}
-use Rattle.graph_search.specs.Deeds.{looked}
+use Rattle.graph_search.specs.Reads.{Seen}
 use Rattle.vec_steps.specs.declared.fault.OpFault.{OpFault}
 use Rattle.vec_steps.specs.Index.{Index, OfNodes, OfLists}
-use Rattle.vec_steps.specs.Doing.{Step, did, cleaned, faulted, Cleaned, Drops, Left, Outdated}
+use Rattle.vec_steps.specs.Doing.{Step, cleaned, faulted, Cleaned, Drops, Left, Outdated}
 use Rattle.vec_steps.specs.Desks.{Desk}
-use Rattle.vec_steps.specs.Calls.{Does, steps_of}
 use Rattle.hnsw_vacuum.specs.Masks.{AreJudged, AreNamed, dead_in, mask_of}
-use Rattle.hnsw_vacuum.specs.Courses.{IsWhy}
+use Rattle.hnsw_vacuum.specs.declared.tally.Tally.{Tally}
+use Rattle.hnsw_vacuum.specs.Courses.{Makes, StopsBy}
+use Rattle.hnsw_vacuum.specs.Tallies.{ChangesOnce, InTurn, IsIdle, one_less}
 
 -- ---- nodes as pages told them
 
@@ -64,38 +64,24 @@ IsDeadDrop Judged g (cleaned (Drops at version gone) (Left ids)) = NamesDead Jud
 IsDeadDrop Judged g (cleaned (Drops at version gone) _) = ⊥
 IsDeadDrop Judged g _ = ⊤
 
-abbrev pub TakesDead : (HeapId → Bool → Type 0) → Index → List Act → ℕ → Step → Type 0
-TakesDead Judged (OfNodes g) acts n s = IsDeadDrop Judged (state_after g acts n) s
-TakesDead Judged (OfLists g) acts n s = ⊤
+abbrev pub TakesDead : (HeapId → Bool → Type 0) → Index → List Act → Step → Type 0
+TakesDead Judged (OfNodes g) acts s = IsDeadDrop Judged (after g acts) s
+TakesDead Judged (OfLists g) acts s = ⊤
 
--- a look at a page, a Drop, a fault of the disks
-abbrev pub IsOfRemove : Step → Type 0
-IsOfRemove (did (looked (AtPage block) told)) = ⊤
-IsOfRemove (cleaned (Drops at version gone) (Left ids)) = ⊤
-IsOfRemove (cleaned (Drops at version gone) Outdated) = ⊤
-IsOfRemove (faulted count) = ⊤
-IsOfRemove _ = ⊥
+-- a Drop, a fault of the disks
+abbrev pub IsOfDrops : Step → Type 0
+IsOfDrops (cleaned (Drops at version gone) (Left ids)) = ⊤
+IsOfDrops (cleaned (Drops at version gone) Outdated) = ⊤
+IsOfDrops (faulted count) = ⊤
+IsOfDrops _ = ⊥
 
--- The course of a call of this pass, over each of these bases: looks at pages and Drops, and only what was called dead is dropped.
-pub record Removing (Judged : HeapId → Bool → Type 0) (over : Index → Type 0) (d : Desk) (old new : List Act) (course : List (ℕ × Step))
-    : Type 0 where
-  pub does : Does over d old new course
-  pub only : AllByRecursion (λ s. IsOfRemove s.1) course
-  pub dead : (base : Index) → over base → AllByRecursion (λ s. TakesDead Judged base new s.0 s.1) course
+-- The Drops of a call, which looks nowhere, and only what was called dead is dropped.
+abbrev pub MakesDrops : (HeapId → Bool → Type 0) → (Index → Type 0) → Desk → List Act → List Act → (List Step → Type 0) → Type 0
+MakesDrops Judged over d old new P = Makes IsOfDrops (TakesDead Judged) over d old new [] [] P
 
--- a call whose steps are as a word says
-pub record Removes (Judged : HeapId → Bool → Type 0) (over : Index → Type 0) (d : Desk) (old new : List Act) (P : List Step → Type 0)
-    : Type 0 where
-  pub course : List (ℕ × Step)
-  pub made : Removing Judged over d old new course
-  pub is : P (steps_of course)
-
--- A fault ended a call: these steps it made, and also of them only what was called dead is dropped.
-pub record StopsBy (Judged : HeapId → Bool → Type 0) (over : Index → Type 0) (d : Desk) (old new : List Act) (fault : OpFault)
-    : Type 0 where
-  pub course : List (ℕ × Step)
-  pub made : Removing Judged over d old new course
-  pub why : IsWhy over d old new course fault
+-- A fault ended such a call: also until then only what was called dead was dropped.
+abbrev pub StopsDrops : (HeapId → Bool → Type 0) → (Index → Type 0) → Desk → List Act → List Act → OpFault → Type 0
+StopsDrops Judged over d old new fault = StopsBy IsOfDrops (TakesDead Judged) over d old new fault
 
 -- ---- all of the dead
 
@@ -104,40 +90,23 @@ abbrev pub ids_asked : Bool → List HeapId → List HeapId
 ids_asked true ids = []
 ids_asked false ids = ids
 
+-- a Drop is counted where it was done: so many rows more are out, and one change less is left
+abbrev pub counts_drop : ℕ → Cleaned → Tally → Tally
+counts_drop dead (Left ids) t = record t { removed = t.removed + dead; left = one_less t.left }
+counts_drop dead _ t = t
+
 -- nothing is asked where no id is dead
-abbrev pub drop_steps : Seen → ℕ → Cleaned → List Step
-drop_steps s zero reply = []
-drop_steps s (suc k) reply = cleaned (Drops s.at s.version (suc k)) reply ∷ []
+abbrev pub DropsNamed : Seen → ℕ → ℕ → Tally → Tally → List Step → Type 0
+DropsNamed s zero dead before now steps = IsIdle before now steps
+DropsNamed s (suc k) dead before now steps = ChangesOnce (Drops s.at s.version (suc k)) (counts_drop dead) before now steps
 
--- how many rows went, of so many that were called dead
-abbrev pub rows_out : Cleaned → ℕ → ℕ
-rows_out (Left ids) dead = dead
-rows_out _ dead = 0
-
--- Each id of the node was judged, and one Drop asked that names just those called dead, if there are any; so many rows went.
-pub record DropsNode (Judged : HeapId → Bool → Type 0) (s : Seen) (removed : ℕ) (steps : List Step) : Type 0 where
+-- Each id of the node was judged, and one Drop is asked for that names just those called dead, if there are any.
+pub record DropsNode (Judged : HeapId → Bool → Type 0) (s : Seen) (before now : Tally) (steps : List Step) : Type 0 where
   pub answers : List Bool
   pub judged : AreJudged Judged (ids_asked s.deleted s.ids) answers
-  pub reply : Cleaned
-  pub steps_are : steps ≡ drop_steps s (mask_of answers) reply
-  pub removed_is : removed ≡ rows_out reply (dead_in answers)
-
--- of two runs of steps one after the other, with what each took out
-pub record InTurn (First Rest : ℕ → List Step → Type 0) (removed : ℕ) (steps : List Step) : Type 0 where
-  pub by_first : ℕ
-  pub by_rest : ℕ
-  pub first : List Step
-  pub rest : List Step
-  pub is_first : First by_first first
-  pub is_rest : Rest by_rest rest
-  pub removed_is : removed ≡ by_first + by_rest
-  pub steps_are : steps ≡ first ++ rest
-
-pub record DropsNothing (removed : ℕ) (steps : List Step) : Type 0 where
-  pub removed_is : removed ≡ 0
-  pub steps_are : steps ≡ []
+  pub drops : DropsNamed s (mask_of answers) (dead_in answers) before now steps
 
 -- the nodes of a page in their order
-abbrev pub DropsNodes : (HeapId → Bool → Type 0) → List Seen → ℕ → List Step → Type 0
-DropsNodes Judged [] removed steps = DropsNothing removed steps
-DropsNodes Judged (s ∷ seen) removed steps = InTurn (DropsNode Judged s) (DropsNodes Judged seen) removed steps
+abbrev pub DropsNodes : (HeapId → Bool → Type 0) → List Seen → Tally → Tally → List Step → Type 0
+DropsNodes Judged [] before now steps = IsIdle before now steps
+DropsNodes Judged (s ∷ seen) before now steps = InTurn (DropsNode Judged s) (DropsNodes Judged seen) before now steps

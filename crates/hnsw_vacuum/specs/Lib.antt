@@ -1,3 +1,5 @@
 pub mod Masks
 pub mod Courses
+pub mod Tallies
 pub mod Dropping
+pub mod Removing

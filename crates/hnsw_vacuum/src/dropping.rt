@@ -1,27 +1,19 @@
-//! Dead rows are taken out of a node.
+//! Dead rows are taken out of the nodes of a page.
 
-ghost use Rattle.std.specs.Prelude.{◌≡◌, ℕ, List, ◌+◌, map, length, IfOk, IfErr};
-ghost use Rattle.vec_steps.specs.declared.fault.OpFault.TheVariants.{Memory};
-ghost use Rattle.vec_steps.specs.Telling.{drop_told, seen_told};
+ghost use Rattle.std.specs.Prelude.{◌≡◌, ℕ, List, false, map, length, IfOk, IfErr};
+ghost use Rattle.vec_steps.specs.Telling.{seen_told};
 ghost use Rattle.vec_steps.specs.Calls.{Goes};
 ghost use Rattle.hnsw_vacuum.specs.Courses.{OverGraphs};
-ghost use Rattle.hnsw_vacuum.specs.Dropping.{DropsNode, DropsNodes, MayDrop, MayDropAll, Removes, StopsBy, rows_out};
+ghost use Rattle.hnsw_vacuum.specs.Dropping.{DropsNode, DropsNodes, MakesDrops, MayDrop, MayDropAll, StopsDrops};
 
+use crate::asking::ask_step;
 use crate::judging::judge;
+use crate::tally::{Tally, counts_drop, is_spent, now_due};
 use vec_names::HeapId;
-use vec_steps::{Ask, OpFault, Seen, Steps, Told, Word};
+use vec_steps::{Ask, OpFault, Seen, Steps, Told};
 
-// How many rows went, by the word.
-fn rows_out(word: Word, left: u8, count: u8) -> u64
-    ensures { result ≡ rows_out (drop_told word left) count }
-{
-    match word {
-        Word::Done => u64::from(count),
-        _ => 0,
-    }
-}
-
-/// Asks the test about each row of a node that a page told, and takes those out that it calls dead. It tells how many went.
+/// Asks the test about each row of a node that a page told, and takes those out that it calls dead. Where a Drop is due and nothing is left
+/// of the budget, it makes none, and says so.
 ///
 /// The desk is in the phase Remove of its vacuum. The errors are those of a step.
 pub fn drop_dead<S: Steps, F: Fn(HeapId) -> bool>(
@@ -29,46 +21,40 @@ pub fn drop_dead<S: Steps, F: Fn(HeapId) -> bool>(
     dead: &F,
     seen: &Seen,
     told: &mut Told,
-) -> Result<u64, OpFault>
+    tally: Tally,
+) -> Result<Tally, OpFault>
     requires callable { F.IsAlwaysCallable dead.now }
     requires told { length told.old.bits ≡ (S.desk steps.old).params.bits }
     ensures goes { Goes S.desk S.stands S.comes_from (OverGraphs (S.stands steps.old) (λ g. MayDrop g (S.seen steps.old)
         (S.desk steps.old).number (seen_told seen.now))) steps.old steps.new }
     ensures told { length told.new.bits ≡ (S.desk steps.old).params.bits }
-    ensures ok { IfOk result (λ n. Removes (λ id b. F.post dead.now id b) (OverGraphs (S.stands steps.old) (λ g. MayDrop g
+    ensures ok { IfOk result (λ now. MakesDrops (λ id b. F.post dead.now id b) (OverGraphs (S.stands steps.old) (λ g. MayDrop g
         (S.seen steps.old) (S.desk steps.old).number (seen_told seen.now))) (S.desk steps.old) (S.seen steps.old) (S.seen steps.new)
-        (DropsNode (λ id b. F.post dead.now id b) (seen_told seen.now) n)) }
-    ensures err { IfErr result (StopsBy (λ id b. F.post dead.now id b) (OverGraphs (S.stands steps.old) (λ g. MayDrop g
+        (DropsNode (λ id b. F.post dead.now id b) (seen_told seen.now) tally now)) }
+    ensures err { IfErr result (StopsDrops (λ id b. F.post dead.now id b) (OverGraphs (S.stands steps.old) (λ g. MayDrop g
         (S.seen steps.old) (S.desk steps.old).number (seen_told seen.now))) (S.desk steps.old) (S.seen steps.old) (S.seen steps.new)) }
 {
     if seen.deleted {
-        return Ok(0);
+        return Ok(tally);
     }
     let mask = judge(dead, seen.ids.as_slice());
     if mask.gone == 0 {
-        return Ok(0);
+        return Ok(tally);
     }
-    let mut ask = Ask::Drop {
+    if is_spent(tally.left) {
+        return Ok(now_due(tally));
+    }
+    let ask = Ask::Drop {
         at: seen.at,
         version: seen.version,
         gone: mask.gone,
     };
-    steps.step(&mut ask, told)?;
-    Ok(rows_out(told.word, told.left, mask.count))
+    ask_step(steps, ask, told)?;
+    let counted = counts_drop(tally, mask.count, told.word, told.left)?;
+    Ok(counted)
 }
 
-// The sum of two counts. One beyond 64 bits, which no index comes to, ends a call as want of memory does.
-fn both(a: u64, b: u64) -> Result<u64, OpFault>
-    ensures sum { IfOk result (λ n. n ≡ a + b) }
-    ensures memory { IfErr result (λ e. e ≡ Memory) }
-{
-    match a.checked_add(b) {
-        Some(sum) => Ok(sum),
-        None => Err(OpFault::Memory),
-    }
-}
-
-/// Does so for each node that a page told, in their order, and tells how many rows went from all of them.
+/// Does so for each node that a page told, in their order, up to the first that has a Drop due for which nothing is left.
 ///
 /// The desk is in the phase Remove of its vacuum. The errors are those of a step.
 pub fn drop_all<S: Steps, F: Fn(HeapId) -> bool>(
@@ -76,23 +62,27 @@ pub fn drop_all<S: Steps, F: Fn(HeapId) -> bool>(
     dead: &F,
     nodes: &[Seen],
     told: &mut Told,
-) -> Result<u64, OpFault>
+    tally: Tally,
+) -> Result<Tally, OpFault>
     requires callable { F.IsAlwaysCallable dead.now }
     requires told { length told.old.bits ≡ (S.desk steps.old).params.bits }
+    requires going { tally.due ≡ false }
     ensures goes { Goes S.desk S.stands S.comes_from (OverGraphs (S.stands steps.old) (λ g. MayDropAll g (S.seen steps.old)
         (S.desk steps.old).number (map seen_told nodes.now))) steps.old steps.new }
     ensures told { length told.new.bits ≡ (S.desk steps.old).params.bits }
-    ensures ok { IfOk result (λ n. Removes (λ id b. F.post dead.now id b) (OverGraphs (S.stands steps.old) (λ g. MayDropAll g
+    ensures ok { IfOk result (λ now. MakesDrops (λ id b. F.post dead.now id b) (OverGraphs (S.stands steps.old) (λ g. MayDropAll g
         (S.seen steps.old) (S.desk steps.old).number (map seen_told nodes.now))) (S.desk steps.old) (S.seen steps.old)
-        (S.seen steps.new) (DropsNodes (λ id b. F.post dead.now id b) (map seen_told nodes.now) n)) }
-    ensures err { IfErr result (StopsBy (λ id b. F.post dead.now id b) (OverGraphs (S.stands steps.old) (λ g. MayDropAll g
+        (S.seen steps.new) (DropsNodes (λ id b. F.post dead.now id b) (map seen_told nodes.now) tally now)) }
+    ensures err { IfErr result (StopsDrops (λ id b. F.post dead.now id b) (OverGraphs (S.stands steps.old) (λ g. MayDropAll g
         (S.seen steps.old) (S.desk steps.old).number (map seen_told nodes.now))) (S.desk steps.old) (S.seen steps.old)
         (S.seen steps.new)) }
 {
-    let mut removed = 0;
+    let mut now = tally;
     'node: for k in 0..nodes.len() {
-        let one = drop_dead(steps, dead, &nodes[k], told)?;
-        removed = both(removed, one)?;
+        now = drop_dead(steps, dead, &nodes[k], told, now)?;
+        if now.due {
+            return Ok(now);
+        }
     }
-    Ok(removed)
+    Ok(now)
 }

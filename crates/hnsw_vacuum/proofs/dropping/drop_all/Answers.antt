@@ -1,69 +1,73 @@
-use Rattle.std.proofs.Common.{ap, ◌∙◌, arith}
+use Rattle.std.proofs.Common.{ap, sym, ◌∙◌, arith}
 use Rattle.vec_steps.specs.Desks.{Desk}
 use Rattle.vec_steps.specs.Telling.{seen_told}
 use Rattle.vec_steps.proofs.Following.{goes_nowhere, goes_then}
-use Rattle.hnsw_vacuum.proofs.Stopped.{handed, removing_then, stops_memory, stops_then}
-use Rattle.hnsw_vacuum.proofs.InOrder.{all_dropped, first_of, next_of, none_dropped, none_left, one_dropped, rest_of}
+use Rattle.hnsw_vacuum.proofs.Stopped.{handed, stops_then}
+use Rattle.hnsw_vacuum.proofs.Turns.{last_part, nothing_yet, one_part, whole}
+use Rattle.hnsw_vacuum.proofs.InOrder.{first_of, next_of, no_nodes, none_left, of_next, rest_of}
 use Rattle.hnsw_vacuum.proofs.dropping.drop_all.Goals as goal
 
 pub node-init : goal.node-init
 node-init g c = record {
   goes = goes_nowhere g.met.S.Steps.comes_itself c.args.steps.now (λ base o. o.stood);
   told = c.requires.told;
-  so_far = none_dropped (λ id b. g.F.Fn.post c.args.dead.now (id, tt) b) (g.S.Steps.seen c.args.steps.now) _;
+  so_far = nothing_yet (g.S.Steps.seen c.args.steps.now) _ c.args.tally c.requires.going;
   may = λ base o. o;
 }
 
-pub returns-in_err-one-clause-goes : goal.returns-in_err-one-clause-goes
-returns-in_err-one-clause-goes g c =
-    let so = c.node.invariant in
-    goes_then g.met.S.Steps.comes_on
-    (λ base o. first_of so.goes.stays (next_of seen_told c.node.k c.args.nodes.now c.index-nodes-k.result (omega (arith, c.node-test.true)) c.index-nodes-k.is) base (so.may base o))
-    so.goes c.in_err-one.ensures.goes
+pub drop_dead-requires-clause-told : goal.drop_dead-requires-clause-told
+drop_dead-requires-clause-told g c = c.node.invariant.told ∙ ap (λ (d : Desk). d.params.bits) (sym c.node.invariant.goes.stays)
 
-pub returns-in_err-one-clause-err : goal.returns-in_err-one-clause-err
-returns-in_err-one-clause-err g c =
+pub returns-in_err-now-clause-goes : goal.returns-in_err-now-clause-goes
+returns-in_err-now-clause-goes g c =
+    let so = c.node.invariant in
+    goes_then g.met.S.Steps.comes_on (λ base o. first_of so.goes.stays (next_of seen_told c.node.k c.args.nodes.now c.index-nodes-k.result (omega (arith, c.node-test.true)) c.index-nodes-k.is) base (so.may base o)) so.goes c.in_err-now.ensures.goes
+
+pub returns-in_err-now-clause-told : goal.returns-in_err-now-clause-told
+returns-in_err-now-clause-told g c = c.in_err-now.ensures.told ∙ ap (λ (d : Desk). d.params.bits) c.node.invariant.goes.stays
+
+pub returns-in_err-now-clause-err : goal.returns-in_err-now-clause-err
+returns-in_err-now-clause-err g c =
     let so = c.node.invariant in
     handed _ c.from_residual.result
-    (stops_then (λ id b. g.F.Fn.post c.args.dead.now (id, tt) b) so.goes.stays
-    (λ base o. first_of so.goes.stays (next_of seen_told c.node.k c.args.nodes.now c.index-nodes-k.result (omega (arith, c.node-test.true)) c.index-nodes-k.is) base (so.may base o))
-    so.so_far.made c.in_err-one.ensures.err)
+    (stops_then so.goes.stays (λ base o. first_of so.goes.stays (next_of seen_told c.node.k c.args.nodes.now c.index-nodes-k.result (omega (arith, c.node-test.true)) c.index-nodes-k.is) base (so.may base o)) so.so_far.made c.in_err-now.ensures.err)
     c.from_residual.ensures.1
 
-pub returns-in_err-removed-clause-goes : goal.returns-in_err-removed-clause-goes
-returns-in_err-removed-clause-goes g c =
+pub returns-then-now-clause-goes : goal.returns-then-now-clause-goes
+returns-then-now-clause-goes g c =
     let so = c.node.invariant in
-    goes_then g.met.S.Steps.comes_on
-    (λ base o. first_of so.goes.stays (next_of seen_told c.node.k c.args.nodes.now c.index-nodes-k.result (omega (arith, c.node-test.true)) c.index-nodes-k.is) base (so.may base o))
-    so.goes c.in_ok-one.ensures.goes
+    goes_then g.met.S.Steps.comes_on (λ base o. first_of so.goes.stays (next_of seen_told c.node.k c.args.nodes.now c.index-nodes-k.result (omega (arith, c.node-test.true)) c.index-nodes-k.is) base (so.may base o)) so.goes c.in_ok-now.ensures.goes
 
-pub returns-in_err-removed-clause-err : goal.returns-in_err-removed-clause-err
-returns-in_err-removed-clause-err g c =
+pub returns-then-now-clause-told : goal.returns-then-now-clause-told
+returns-then-now-clause-told g c = c.in_ok-now.ensures.told ∙ ap (λ (d : Desk). d.params.bits) c.node.invariant.goes.stays
+
+pub returns-then-now-clause-ok : goal.returns-then-now-clause-ok
+returns-then-now-clause-ok g c =
     let so = c.node.invariant in
-    let x = c.in_ok-one.ensures.ok in
-    handed _ c.from_residual-in_err-removed.result
-    (stops_memory (λ id b. g.F.Fn.post c.args.dead.now (id, tt) b) c.in_err-removed.field-0.0 c.in_err-removed.ensures.memory
-    (removing_then (λ id b. g.F.Fn.post c.args.dead.now (id, tt) b) so.goes.stays
-    (λ base o. first_of so.goes.stays (next_of seen_told c.node.k c.args.nodes.now c.index-nodes-k.result (omega (arith, c.node-test.true)) c.index-nodes-k.is) base (so.may base o))
-    so.so_far.made x.made))
-    c.from_residual-in_err-removed.ensures.1
+    last_part so.goes.stays (λ base o. first_of so.goes.stays (next_of seen_told c.node.k c.args.nodes.now c.index-nodes-k.result (omega (arith, c.node-test.true)) c.index-nodes-k.is) base (so.may base o))
+    (of_next (λ id b. g.F.Fn.post c.args.dead.now (id, tt) b) (next_of seen_told c.node.k c.args.nodes.now c.index-nodes-k.result (omega (arith, c.node-test.true)) c.index-nodes-k.is) so.so_far) c.in_ok-now.ensures.ok c.if-now.true
 
 pub node-preserved : goal.node-preserved
 node-preserved g c =
     let so = c.node.invariant in
-    let next = next_of seen_told c.node.k c.args.nodes.now c.index-nodes-k.result (omega (arith, c.node-test.true)) c.index-nodes-k.is in
+    let next = (next_of seen_told c.node.k c.args.nodes.now c.index-nodes-k.result (omega (arith, c.node-test.true)) c.index-nodes-k.is) in
     record {
-      goes = goes_then g.met.S.Steps.comes_on (λ base o. first_of so.goes.stays next base (so.may base o)) so.goes c.in_ok-one.ensures.goes;
-      told = c.in_ok-one.ensures.told ∙ ap (λ (d : Desk). d.params.bits) so.goes.stays;
-      so_far = one_dropped (λ id b. g.F.Fn.post c.args.dead.now (id, tt) b) so.goes.stays (λ base o. first_of so.goes.stays next base (so.may base o))
-          c.in_ok-removed.removed c.in_ok-removed.ensures.sum next so.so_far c.in_ok-one.ensures.ok;
+      goes = goes_then g.met.S.Steps.comes_on (λ base o. first_of so.goes.stays next base (so.may base o)) so.goes c.in_ok-now.ensures.goes;
+      told = c.in_ok-now.ensures.told ∙ ap (λ (d : Desk). d.params.bits) so.goes.stays;
+      so_far = one_part so.goes.stays (λ base o. first_of so.goes.stays next base (so.may base o)) (of_next (λ id b. g.F.Fn.post c.args.dead.now (id, tt) b) next so.so_far) c.in_ok-now.ensures.ok c.if-now.false;
       may = λ base o.
-          let stood = c.in_ok-one.ensures.goes.still_stands base (first_of so.goes.stays next base (so.may base o)) in
-          rest_of (λ id b. g.F.Fn.post c.args.dead.now (id, tt) b) so.goes.stays next c.in_ok-one.ensures.ok base stood
+          let stood = c.in_ok-now.ensures.goes.still_stands base (first_of so.goes.stays next base (so.may base o)) in
+          rest_of (λ id b. g.F.Fn.post c.args.dead.now (id, tt) b) so.goes.stays next c.in_ok-now.ensures.ok base stood
           (g.met.S.Steps.shaped c.node.steps base (so.goes.still_stands base o)) (g.met.S.Steps.legal c.drop_dead.new.steps base stood) (so.may base o);
     }
+
+pub returns-clause-goes : goal.returns-clause-goes
+returns-clause-goes g c = c.node.invariant.goes
+
+pub returns-clause-told : goal.returns-clause-told
+returns-clause-told g c = c.node.invariant.told
 
 pub returns-clause-ok : goal.returns-clause-ok
 returns-clause-ok g c =
     let so = c.node.invariant in
-    all_dropped (none_left seen_told c.node.k c.args.nodes.now (omega (arith, c.node-test.false))) so.so_far
+    whole so.so_far (no_nodes (λ id b. g.F.Fn.post c.args.dead.now (id, tt) b) _ c.node.now (none_left seen_told c.node.k c.args.nodes.now (omega (arith, c.node-test.false))))

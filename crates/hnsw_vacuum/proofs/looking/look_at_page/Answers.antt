@@ -1,0 +1,25 @@
+use Rattle.step_gates.proofs.Exits.{fails}
+use Rattle.std.proofs.Common.{map, subst, sym}
+use Rattle.std.specs.Prelude.{List}
+use Rattle.vec_steps.specs.declared.seen.Seen.{Seen}
+use Rattle.vec_steps.specs.Telling.{seen_told}
+use Rattle.hnsw_vacuum.specs.Courses.{OverGraphs}
+use Rattle.hnsw_vacuum.specs.Dropping.{MayDropAll}
+use Rattle.hnsw_vacuum.proofs.Stopped.{handed, stops_memory}
+use Rattle.hnsw_vacuum.proofs.Pages.{page_asks, page_fails, page_made, page_may}
+use Rattle.hnsw_vacuum.proofs.looking.look_at_page.Goals as goal
+
+pub returns-in_err-ask_step-clause-err : goal.returns-in_err-ask_step-clause-err
+returns-in_err-ask_step-clause-err g c =
+    handed _ c.from_residual.result (page_fails c.args.block c.in_err-ask_step.field-0.0 c.in_err-ask_step.ensures.err) c.from_residual.ensures.1
+
+pub returns-in_err-push-clause-err : goal.returns-in_err-push-clause-err
+returns-in_err-push-clause-err g c =
+    fails c.from_residual-in_err-push.result (λ e is. stops_memory e is (page_made c.args.block c.in_ok-ask_step.ensures.ok)) c.from_residual-in_err-push.ensures.1
+
+pub returns-clause-may : goal.returns-clause-may
+returns-clause-may g c = λ base o.
+    let st = c.in_ok-ask_step.ensures.goes.still_stands base (page_asks c.args.block base o) in
+    subst (λ (l : List Seen). OverGraphs (g.S.Steps.stands c.ask_step.new.steps) (λ h. MayDropAll h (g.S.Steps.seen c.ask_step.new.steps) (g.S.Steps.desk c.args.steps.now).number (map seen_told l)) base)
+    (sym c.swap.ensures.x_after)
+    (page_may c.args.block c.in_ok-ask_step.ensures.ok base st (g.met.S.Steps.shaped c.ask_step.new.steps base st) (g.met.S.Steps.legal c.ask_step.new.steps base st) o)
