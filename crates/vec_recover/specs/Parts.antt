@@ -173,14 +173,17 @@ epoch_with rest blocks images = record {
 
 -- What an opening comes to once the epoch is read, over bytes of the page area: the index, or the place of what is wrong.
 abbrev pub Rebuilds : Epoch → List Content → Result ReadIndex OpenFault → Type 0
-Rebuilds epoch first (Ok read) = (recovery : Recovery) × (recovery.epoch ≡ epoch) × Tells read recovery × AreOf epoch.head.form recovery.params first
+Rebuilds epoch first (Ok read) = (recovery : Recovery) × (recovery.epoch ≡ epoch) × Tells read recovery
+    × AreOf epoch.head.form recovery.params first
     × (epoch.bad ≡ None) × AreRedoneAll recovery.params (wrap_of epoch.head.form) (first_number epoch) epoch.events first recovery.pages
 Rebuilds epoch first (Err faults.Memory) = ⊤
 Rebuilds epoch first (Err (faults.Disk count)) = ⊤
-Rebuilds epoch first (Err (faults.NotIndex area at)) = (area ≡ Pages) × ((block : ℕ) × (at ≡ PAGE_SIZE * block) × IsLowestBroken epoch.head.form first block)
+Rebuilds epoch first (Err (faults.NotIndex area at)) =
+    (area ≡ Pages) × ((block : ℕ) × (at ≡ PAGE_SIZE * block) × IsLowestBroken epoch.head.form first block)
 Rebuilds epoch first (Err (faults.BadEvent area at)) = (area ≡ epoch.area) × ((p : Params) × AreOf epoch.head.form p first
     × (StopAt p (wrap_of epoch.head.form) (first_number epoch) epoch.events first at
-    ⊎ ((epoch.bad ≡ Some at) × ((after : List Content) × AreRedoneAll p (wrap_of epoch.head.form) (first_number epoch) epoch.events first after))))
+    ⊎ ((epoch.bad ≡ Some at) × ((after : List Content)
+    × AreRedoneAll p (wrap_of epoch.head.form) (first_number epoch) epoch.events first after))))
 
 abbrev pub IsRebuilt : Rest → List (ℕ × Content) → List Content → Result ReadIndex OpenFault → Type 0
 IsRebuilt rest images first result = (blocks : ℕ) → Rebuilds (epoch_with rest blocks images) first result

@@ -177,7 +177,8 @@ IsNoIndexBy image epoch block =
 abbrev pub IsNoIndex : Image → Area → ℕ → Type 0
 IsNoIndex image area at =
     ReadsAs image (Err (area, at))
-    ⊎ ((area ≡ Pages) × ((epoch : Epoch) × ReadsAs image (Ok (Some epoch)) × ((block : ℕ) × (at ≡ PAGE_SIZE * block) × IsNoIndexBy image epoch block)))
+    ⊎ ((area ≡ Pages) × ((epoch : Epoch) × ReadsAs image (Ok (Some epoch))
+    × ((block : ℕ) × (at ≡ PAGE_SIZE * block) × IsNoIndexBy image epoch block)))
 
 -- The batch or event at this place of the epoch's area is the first that can't be taken: the events before can be redone.
 pub record IsBadAt (image : Image) (area : Area) (at : ℕ) : Type 0 where
