@@ -38,10 +38,13 @@ marks_more All Is Left marks new i m = record {
 pub marks_end : (All Left : ℕ → Type 0) (marks : List Bool) → IsMarking All Left marks → ((block : ℕ) → Left block → ⊥) → AreMarked marks All
 marks_end All Left marks i none = record {
   count = i.count;
-  each = λ block. (i.to block, λ both. elim (i.from block both.0 both.1) as (λ _. IsMarked marks block) [
-    | inl marked ↦ marked
-    | inr rest ↦ absurd (none block rest)
-  ]);
+  each = λ block. (
+    i.to block,
+    λ both. elim (i.from block both.0 both.1) as (λ _. IsMarked marks block) [
+      | inl marked ↦ marked
+      | inr rest ↦ absurd (none block rest)
+    ],
+  );
 }
 
 pub marks_none : (All : ℕ → Type 0) (marks : List Bool) → length marks ≡ MOST_BLOCKS → ((block : ℕ) → IsMarked marks block → ⊥) → IsMarking All All marks
@@ -78,9 +81,11 @@ marked_both old mid new a b Is same x y = record {
     | inl old ↦ inl old
     | inr now ↦ inr ((same block).1 (inl now.0), now.1)
   ]
+
   to : (block : ℕ) → IsMarked mid block ⊎ ((block ≡ b) × (block < length mid)) → IsMarked old block ⊎ (Is block × (block < length old))
   to block (inl marked) = was block marked
   to block (inr now) = inr ((same block).1 (inr now.0), omega (arith, now.1, x.count))
+
   from : (block : ℕ) → IsMarked old block ⊎ (Is block × (block < length old)) → IsMarked new block
   from block (inl marked) = (y.each block).1 (inl ((x.each block).1 (inl marked)))
   from block (inr now) = elim ((same block).0 now.0) as (λ _. IsMarked new block) [
@@ -91,7 +96,7 @@ marked_both old mid new a b Is same x y = record {
 pub marked_none : (old : List Bool) (Is : ℕ → Type 0) → ((block : ℕ) → Is block → ⊥) → AreMarkedMore old old Is
 marked_none old Is none = record {
   count = refl;
-  each = λ block. (λ marked. inl marked, λ either. elim either as (λ _. IsMarked old block) [ | inl marked ↦ marked | inr now ↦ absurd (none block now.0) ]);
+  each = λ block. (λ marked. inl marked, λ either. elim either as (λ _. IsMarked old block) [ inl marked ↦ marked | inr now ↦ absurd (none block now.0) ]);
 }
 
 -- ---- the marked blocks up to one
@@ -105,8 +110,10 @@ rising_more : (list : List ℕ) (block : ℕ) → IsStrictlyIncreasing list → 
 rising_more list block rising low k within = by (nat_lt (k + 1) (length list)) refl where
   long : k + 1 < length list + 1
   long = omega (arith, within, length_push list block)
+
   before : (n : ℕ) → n < length list → slice_index (list ++ block ∷ []) n ≡ slice_index list n
   before n inside = get_or_append_left list (block ∷ []) 0 n inside
+
   by : (b : Bool) → nat_lt (k + 1) (length list) ≡ b → slice_index (list ++ block ∷ []) k < slice_index (list ++ block ∷ []) (k + 1)
   by true e =
       let inside : k + 1 < length list = ltb-true _ _ e in
@@ -142,6 +149,7 @@ up_to_marked marks block list a marked = record {
         (omega (arith, both.0), both.1)
     | inr last ↦ (omega (arith, last), subst (IsMarked marks) last marked)
   ]
+
   from : (b : ℕ) → (b < block + 1) × IsMarked marks b → Contains (list ++ block ∷ []) b
   from b both = elim (below_next b block both.0) as (λ _. Contains (list ++ block ∷ []) b) [
     | inl low ↦ Contains-append_left list (block ∷ []) b ((a.each b).1 (low, both.1))

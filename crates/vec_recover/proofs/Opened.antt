@@ -15,20 +15,19 @@ use Rattle.vec_recover.specs.Parts.{IsOpened}
 module _ (image : Image) (epoch : Epoch) (reads : ReadsAs image (Ok (Some epoch))) where
   pub opened_ok : (read : ReadIndex) → IsOpened (image Pages) epoch (Ok read) → IsOpening image (Ok (Some read))
   opened_ok read (first, are, (r, same, tells, of, whole, redone)) =
-      let begins : Begins image epoch r.params first = record { reads = reads; are_first = are; are_of = of } in
-      (
+      let begins : Begins image epoch r.params first = record { reads = reads; are_first = are; are_of = of } in (
         r,
         tells,
         recovered r first same begins whole redone,
       ) where
-    recovered : (r : Recovery) (first : List Content) → r.epoch ≡ epoch → Begins image epoch r.params first → epoch.bad ≡ None
-        → AreRedoneAll r.params (wrap_of epoch.head.form) (first_number epoch) epoch.events first r.pages → IsRecovered image r
-    recovered r first same begins whole redone = record {
-      first = first;
-      begins = subst (λ (e : Epoch). Begins image e r.params first) (sym same) begins;
-      whole = subst (λ (e : Epoch). e.bad ≡ None) (sym same) whole;
-      redone = subst (λ (e : Epoch). AreRedoneAll r.params (wrap_of e.head.form) (first_number e) e.events first r.pages) (sym same) redone;
-    }
+        recovered : (r : Recovery) (first : List Content) → r.epoch ≡ epoch → Begins image epoch r.params first → epoch.bad ≡ None
+            → AreRedoneAll r.params (wrap_of epoch.head.form) (first_number epoch) epoch.events first r.pages → IsRecovered image r
+        recovered r first same begins whole redone = record {
+          first = first;
+          begins = subst (λ (e : Epoch). Begins image e r.params first) (sym same) begins;
+          whole = subst (λ (e : Epoch). e.bad ≡ None) (sym same) whole;
+          redone = subst (λ (e : Epoch). AreRedoneAll r.params (wrap_of e.head.form) (first_number e) e.events first r.pages) (sym same) redone;
+        }
 
   pub opened_err : (fault : OpenFault) → IsOpened (image Pages) epoch (Err fault) → RecoversTo image (Err fault)
   opened_err faults.Memory x = tt

@@ -38,28 +38,30 @@ module _ (rest : Rest) (p : Params) (first now : List Content) (of : AreOf rest.
   rebuilt images marks marked up blocks =
       let r : Recovery = record { epoch = epoch_with rest blocks images; params = p; pages = now } in
       (r, refl, tells r, of, ended.0, ended.1) where
-    unwritten_is : (block : ℕ) → Contains read.loaded.unwritten.items block
-        ↔ ((block < length now) × (IsImaged images block ⊎ IsTouchedBy p rest.events.items block))
-    unwritten_is block = (to, from) where
-      to : Contains read.loaded.unwritten.items block → (block < length now) × (IsImaged images block ⊎ IsTouchedBy p rest.events.items block)
-      to there =
-          let both = (up.each block).0 (subst (λ (l : List ℕ). Contains l block) is.7 there) in
-          (both.0, ((marked.each block).0 both.1).1)
-      from : (block < length now) × (IsImaged images block ⊎ IsTouchedBy p rest.events.items block) → Contains read.loaded.unwritten.items block
-      from both =
-          let low : block < MOST_BLOCKS = omega (arith, both.0, ended.2.few) in
-          subst (λ (l : List ℕ). Contains l block) (sym is.7) ((up.each block).1 (both.0, (marked.each block).1 (low, both.1)))
-    tells : (r : Recovery) → Tells read (record { epoch = epoch_with rest blocks images; params = p; pages = now })
-    tells r = record {
-      form = is.0;
-      epoch = is.2;
-      area = is.3;
-      before = is.4;
-      end = is.5;
-      used = is.6;
-      pages = is.1;
-      unwritten = unwritten_is;
-    }
+        unwritten_is : (block : ℕ) → Contains read.loaded.unwritten.items block
+            ↔ ((block < length now) × (IsImaged images block ⊎ IsTouchedBy p rest.events.items block))
+        unwritten_is block = (to, from) where
+          to : Contains read.loaded.unwritten.items block → (block < length now) × (IsImaged images block ⊎ IsTouchedBy p rest.events.items block)
+          to there =
+              let both = (up.each block).0 (subst (λ (l : List ℕ). Contains l block) is.7 there) in
+              (both.0, ((marked.each block).0 both.1).1)
+
+          from : (block < length now) × (IsImaged images block ⊎ IsTouchedBy p rest.events.items block) → Contains read.loaded.unwritten.items block
+          from both =
+              let low : block < MOST_BLOCKS = omega (arith, both.0, ended.2.few) in
+              subst (λ (l : List ℕ). Contains l block) (sym is.7) ((up.each block).1 (both.0, (marked.each block).1 (low, both.1)))
+
+        tells : (r : Recovery) → Tells read (record { epoch = epoch_with rest blocks images; params = p; pages = now })
+        tells r = record {
+          form = is.0;
+          epoch = is.2;
+          area = is.3;
+          before = is.4;
+          end = is.5;
+          used = is.6;
+          pages = is.1;
+          unwritten = unwritten_is;
+        }
 
   pub stands_for : IsStandingFor read
   stands_for = (p, subst (λ (l : List Content). Stand p l) (sym is.1) ended.2.stand)

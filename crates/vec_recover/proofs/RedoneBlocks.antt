@@ -70,7 +70,7 @@ module _ (how : Redoing) (event : Event) where
   pub same_block : (first other : ℕ) (old new : List Content) → first ≡ other → IsRedoneAt how event first old new true → IsRedoneAtBoth how event first other old new true
   same_block first other old new same x =
       as_blocks (λ b. b ≡ first) (λ b. (b ≡ first) ⊎ (b ≡ other)) old new
-      (λ b. (λ is. inl is, λ is. elim is as (λ _. b ≡ first) [ | inl here ↦ here | inr there ↦ there ∙ sym same ])) (one_redone first old new x)
+      (λ b. (λ is. inl is, λ is. elim is as (λ _. b ≡ first) [ inl here ↦ here | inr there ↦ there ∙ sym same ])) (one_redone first old new x)
 
   pub then_other : (first other : ℕ) (old mid new : List Content) (b : Bool) → (first ≡ other → ⊥) → IsRedoneAt how event first old mid true → IsRedoneAt how event other mid new b
       → IsRedoneAtBoth how event first other old new b

@@ -56,18 +56,16 @@ module _ (p : Params) (wrap number : ℕ) (event : Event) (pages after : List Co
     (are : AreAllRedone p wrap number event pages after) where
   stand_by : (k : Kind) → FollowsOf k p pages event → StandOf k p after × (length after ≤ MOST_BLOCKS) × All IsPage after
   stand_by Hnsw (g, stands, same, follows) =
-      let are_g : AreAllRedone g.params wrap number event pages after = subst (λ (q : Params). AreAllRedone q wrap number event pages after) (sym same) are in
-      (
+      let are_g : AreAllRedone g.params wrap number event pages after = subst (λ (q : Params). AreAllRedone q wrap number event pages after) (sym same) are in (
         (nodes_effect.effect wrap event g, nodes_redo.redo_effect pages after g wrap number few all stands event follows are_g, effect_params wrap event g ∙ same),
         nodes_kept.blocks_kept pages g few event g.params wrap number after follows are_g,
         nodes_bytes.pages_after pages after g wrap number all stands event follows are_g low,
       )
-  stand_by Ivf (g, stands, follows) =
-      (
-        (lists_effect.effect event g, lists_redo.redo_effect p pages after g wrap number few all stands event follows are),
-        lists_kept.blocks_kept pages g few event p wrap number after follows are,
-        lists_bytes.pages_kept p pages after event wrap number are g all stands follows low,
-      )
+  stand_by Ivf (g, stands, follows) = (
+    (lists_effect.effect event g, lists_redo.redo_effect p pages after g wrap number few all stands event follows are),
+    lists_kept.blocks_kept pages g few event p wrap number after follows are,
+    lists_bytes.pages_kept p pages after event wrap number are g all stands follows low,
+  )
 
   pub stands_after : FollowsOf p.kind p pages event → ArePages p after
   stands_after follows =

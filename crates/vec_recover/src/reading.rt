@@ -70,7 +70,12 @@ fn read_of(rest: Rest, unwritten: Vec<u32>, pages: Vec<Page>) -> ReadIndex
 }
 
 // The index of these pages before the epoch's events, with the events redone.
-fn rebuild(alloc: Global, rest: Rest, marks: Marks, pages: Vec<Page>) -> Result<ReadIndex, OpenFault>
+fn rebuild(
+    alloc: Global,
+    rest: Rest,
+    marks: Marks,
+    pages: Vec<Page>,
+) -> Result<ReadIndex, OpenFault>
     requires few { length pages.items ≤ MOST_BLOCKS }
     ensures rebuilt { (images : List (ℕ × Content)) → AreMarked marks.marks.items (IsImaged images)
         → IsRebuilt rest images pages.items result }

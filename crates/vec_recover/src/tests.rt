@@ -19,9 +19,9 @@ const META: [u8; 32] = [
 
 /// A batch of a Put of the first node and the Entry that names it, behind its seal and its length, and a closed seal.
 const BATCH: [u8; 66] = [
-    0xA5, 60, 0, 0, 0, 0x01, 0, 0, 1, 0, 1, 0, 0, 0, 1, 0, 2, 0, 1, 0, 0, 0, 1, 0, 1, 0, 4, 0, 0, 0,
-    0, 4, 0, 0xFF, 0xFF, 0xFF, 0xFF, 0, 0, 0xFF, 0xFF, 0xFF, 0xFF, 0, 0, 0xFF, 0xFF, 0xFF, 0xFF, 0,
-    0, 0xFF, 0xFF, 0xFF, 0xFF, 0, 0, 0x07, 0, 0, 1, 0, 1, 0, 0, 0,
+    0xA5, 60, 0, 0, 0, 0x01, 0, 0, 1, 0, 1, 0, 0, 0, 1, 0, 2, 0, 1, 0, 0, 0, 1, 0, 1, 0, 4, 0, 0,
+    0, 0, 4, 0, 0xFF, 0xFF, 0xFF, 0xFF, 0, 0, 0xFF, 0xFF, 0xFF, 0xFF, 0, 0, 0xFF, 0xFF, 0xFF, 0xFF,
+    0, 0, 0xFF, 0xFF, 0xFF, 0xFF, 0, 0, 0x07, 0, 0, 1, 0, 1, 0, 0, 0,
 ];
 
 /// What an opening told: nothing, what is wrong or bad and where, or the form, how many pages and events there were, what they take
@@ -70,7 +70,13 @@ fn worked(alloc: Global, place: usize, byte: u8, len: usize) -> Result<Vec<u8>, 
 /// What an opening tells of that log with a byte changed and of a length.
 fn tell(alloc: Global, place: usize, byte: u8, len: usize) -> Result<Told, AllocError> {
     let log = worked(alloc, place, byte, len)?;
-    let mut disks = MemDisks::over(alloc, Vec::new(alloc), log, Vec::new(alloc), Vec::new(alloc));
+    let mut disks = MemDisks::over(
+        alloc,
+        Vec::new(alloc),
+        log,
+        Vec::new(alloc),
+        Vec::new(alloc),
+    );
     Ok(told_of(read_index(alloc, &mut disks)))
 }
 
@@ -124,7 +130,13 @@ fn changed_bytes(rt: HostRuntime) -> Result<(), AllocError> {
 fn the_pages(rt: HostRuntime) -> Result<(), AllocError> {
     let alloc = rt.alloc();
     let log = worked(alloc, 0, 0x56, 8_302)?;
-    let mut disks = MemDisks::over(alloc, Vec::new(alloc), log, Vec::new(alloc), Vec::new(alloc));
+    let mut disks = MemDisks::over(
+        alloc,
+        Vec::new(alloc),
+        log,
+        Vec::new(alloc),
+        Vec::new(alloc),
+    );
     let Ok(Some(read)) = read_index(alloc, &mut disks) else {
         return Err(AllocError);
     };

@@ -38,16 +38,15 @@ loop-image-preserved g c =
     let so_far : g.D.Disks.told → AreSoFar c.args.images.items (c.in-Some.image ∷ left) area before =
     λ told. subst (λ (l : List (ℕ × Content)). AreSoFar c.args.images.items l area before) is (i.4 told) in
     let long : length c.push.new.self.items ≡ c.in-Some.image.0 + 1 =
-    omega (arith, c.in-Ok-push.ensures.len, c.push.new.self.ok.0, c.fill_to.new.pages.ok.0, c.in-Ok-fill_to.ensures.count) in
-    (
+    omega (arith, c.in-Ok-push.ensures.len, c.push.new.self.ok.0, c.fill_to.new.pages.ok.0, c.in-Ok-fill_to.ensures.count) in (
       tt,
       tt,
       subst (λ (n : ℕ). RisesBelow n c.args.blocks left) (sym long) rises.2,
       omega (arith, long, rises.1),
       λ told.
-      subst (λ (pages : List Content). AreSoFar c.args.images.items left area pages) (sym c.in-Ok-push.ensures.items)
-      (one_more c.args.images.items area before mid c.args.blocks c.in-Some.image left (so_far told) rises
-      (subst (λ (bytes : List ℕ). IsFilled bytes c.in-Some.image.0 before mid) (i.5.kept.seen Pages) (c.in-Ok-fill_to.ensures.ok told))),
+          subst (λ (pages : List Content). AreSoFar c.args.images.items left area pages) (sym c.in-Ok-push.ensures.items)
+          (one_more c.args.images.items area before mid c.args.blocks c.in-Some.image left (so_far told) rises
+          (subst (λ (bytes : List ℕ). IsFilled bytes c.in-Some.image.0 before mid) (i.5.kept.seen Pages) (c.in-Ok-fill_to.ensures.ok told))),
       reads_on _ _ _ i.5 c.in-Ok-fill_to.ensures.only,
       omega (arith, i.6, c.in-Ok-fill_to.ensures.later),
     )

@@ -18,7 +18,7 @@ returns-then-not-branch c =
     let k = c.loop-placed.placed-index in
     let here : slice_get events k ≡ Some c.placed-item.result = slice_get_read events _ _ _ refl (omega arith) c.placed-item.is in
     let i = subst (λ (l : List Placed). IsGoing c.args.first events l c.args.pages.now.items c.loop-placed.pages.items c.loop-placed.number)
-        (left_at events k c.placed-item.result here) c.loop-placed.invariant in
+    (left_at events k c.placed-item.result here) c.loop-placed.invariant in
     stops_here c.args.first events (drop (k + 1) events) c.args.pages.now.items c.loop-placed.pages.items c.loop-placed.number c.placed-item.result i
     c.redo_next.new.pages.items
     (subst (λ (b : Bool). IsNextBy c.args.first.params c.args.first.wrap c.loop-placed.number c.placed-item.result.1 c.loop-placed.pages.items c.redo_next.new.pages.items b)
@@ -30,7 +30,7 @@ loop-placed-preserved c =
     let k = c.loop-placed.placed-index in
     let here : slice_get events k ≡ Some c.placed-item.result = slice_get_read events _ _ _ refl (omega arith) c.placed-item.is in
     let i = subst (λ (l : List Placed). IsGoing c.args.first events l c.args.pages.now.items c.loop-placed.pages.items c.loop-placed.number)
-        (left_at events k c.placed-item.result here) c.loop-placed.invariant in
+    (left_at events k c.placed-item.result here) c.loop-placed.invariant in
     goes_on c.args.first events (drop (k + 1) events) c.args.pages.now.items c.loop-placed.pages.items c.loop-placed.number c.placed-item.result i
     c.redo_next.new.pages.items ((c.loop-placed.number + 1) % 18446744073709551616)
     (subst (λ (b : Bool). IsNextBy c.args.first.params c.args.first.wrap c.loop-placed.number c.placed-item.result.1 c.loop-placed.pages.items c.redo_next.new.pages.items b)
