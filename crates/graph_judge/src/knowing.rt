@@ -47,12 +47,7 @@ pub(crate) fn layer_of_slot(m: u16, level: u8, slot: usize) -> u32
 
 /// Whether the desk knows each member of each layer that these slots of a node of this level name, up to
 /// that layer.
-pub fn knows_members(
-    course: &Course<'_>,
-    desk: u32,
-    level: u8,
-    lists: &Listed<Option<Tid>>,
-) -> bool
+pub fn knows_members(course: &Course<'_>, desk: u32, level: u8, lists: &Listed<Option<Tid>>) -> bool
     ensures { let m = (after course.now.base.now course.now.acts.now).params.m in
         IsTrue result ↔ KnowsMembers course.now.base.now course.now.acts.now desk m level lists.now }
 {
