@@ -25,14 +25,14 @@ use Rattle.vec_steps.specs.Index.{Index, OfNodes, OfLists, IsLegal, IsShaped}
 use Rattle.vec_steps.specs.Doing.{Step, cleaned, faulted, Cleaned, Drops, Left, Outdated, drop_reply}
 use Rattle.vec_steps.specs.Telling.{drop_told}
 use Rattle.vec_steps.specs.Desks.{Asks, Desk}
-use Rattle.vec_steps.specs.Calls.{Acts}
+use Rattle.vec_steps.specs.Calls.{Acts, Does}
 use Rattle.vec_steps.proofs.Following.{one_step}
 use Rattle.hnsw_vacuum.specs.declared.judging.Mask.{Mask}
 use Rattle.hnsw_vacuum.specs.declared.tally.Tally.{Tally}
 use Rattle.hnsw_vacuum.specs.Masks.{AreJudged, AreNamed, IsMaskOf, dead_in}
 use Rattle.hnsw_vacuum.specs.Tallies.{ChangesOnce, IsIdle, is_spent}
 use Rattle.hnsw_vacuum.specs.Courses.{IsStepped, Making, OverGraphs}
-use Rattle.hnsw_vacuum.specs.Dropping.{DropsNamed, DropsNode, IsDeadDrop, IsOfDrops, MakesDrops, MayDrop, NamesDead, TakesDead, counts_drop, ids_asked}
+use Rattle.hnsw_vacuum.specs.Dropping.{DropsNamed, DropsNode, IsDeadDrop, IsOfDrops, MakesDrops, MayDrop, NamesDead, StandsSeen, TakesDead, counts_drop, ids_asked}
 use Rattle.hnsw_vacuum.proofs.Masking.{as_long, below, named_dead}
 use Rattle.hnsw_vacuum.proofs.Lasts.{seen_lasts}
 use Rattle.hnsw_vacuum.proofs.Stopped.{making_none}
@@ -155,30 +155,47 @@ module _ {stands : Index → Type 0} {d : Desk} {old : List Act} (J : HeapId →
     fresh n same not_deleted =
         ap (λ b. b || not (n.version == s.version)) not_deleted ∙ ap not (same_is n.version s.version same)
 
-    taken : (g : Graph) → nodes.IsShaped g → history.IsLegal g new → MayDrop g old d.number s
+    -- the node stands right before the Drop as it was read
+    pub still_stands : (g : Graph) → nodes.IsShaped g → history.IsLegal g new → MayDrop g old d.number s → StandsSeen (after g (take told.at new)) s.at s.version s.ids
+    still_stands g shaped legal may =
+        seen_lasts g (cut (IsAllowed g) new told.at legal) so_far Remove tt may.phase s.at tt shaped s.version s.ids (may.stands alive)
+
+    left_by : (g : Graph) (was : StandsSeen (after g (take told.at new)) s.at s.version s.ids)
+        → drop_told told.word told.left ≡ drop_reply (node_at (after g (take told.at new)) s.at) s.version mask.gone
+        → drop_told told.word told.left ≡ Left (length (kept mask.gone was.node.ids))
+    left_by g was says =
+        says ∙ ap (λ (o : Option Node). drop_reply o s.version mask.gone) was.there.stands
+        ∙ ap (λ b. if b then Outdated else Left (length (kept mask.gone was.node.ids))) (fresh was.node was.there.of_version was.there.not_deleted)
+
+    -- so it is not outdated
+    pub drop_left : (g : Graph) (shaped : nodes.IsShaped g) (legal : history.IsLegal g new) (may : MayDrop g old d.number s)
+        → drop_told told.word told.left ≡ drop_reply (node_at (after g (take told.at new)) s.at) s.version mask.gone
+        → drop_told told.word told.left ≡ Left (length (kept mask.gone (still_stands g shaped legal may).node.ids))
+    drop_left g shaped legal may says = left_by g (still_stands g shaped legal may) says
+
+    taken_by : (g : Graph) (was : StandsSeen (after g (take told.at new)) s.at s.version s.ids)
         → drop_told told.word told.left ≡ drop_reply (node_at (after g (take told.at new)) s.at) s.version mask.gone
         → IsDeadDrop J (after g (take told.at new)) (cleaned (Drops s.at s.version mask.gone) (drop_told told.word told.left))
-    taken g shaped legal may says =
-        let was = seen_lasts g (cut (IsAllowed g) new told.at legal) so_far Remove tt may.phase s.at tt shaped s.version s.ids (may.stands alive) in
-        let left_is : drop_told told.word told.left ≡ Left (length (kept mask.gone was.node.ids)) =
-        says ∙ ap (λ (o : Option Node). drop_reply o s.version mask.gone) was.there.stands
-        ∙ ap (λ b. if b then Outdated else Left (length (kept mask.gone was.node.ids))) (fresh was.node was.there.of_version was.there.not_deleted) in
+    taken_by g was says =
         let named : AreNamed (λ id. J id true) mask.gone was.node.ids =
         subst (λ (l : List HeapId). AreNamed (λ id. J id true) mask.gone l) (sym was.front)
         (subst (λ n. AreNamed (λ id. J id true) n (s.ids ++ was.more)) (sym m.gone_is) (named_dead J s.ids was.more m.answers m.judged)) in
         let names : NamesDead J (after g (take told.at new)) s.at mask.gone = record { node = was.node; stands = was.there.stands; dead = named } in
-        subst (λ (r : Cleaned). IsDeadDrop J (after g (take told.at new)) (cleaned (Drops s.at s.version mask.gone) r)) (sym left_is) names
+        subst (λ (r : Cleaned). IsDeadDrop J (after g (take told.at new)) (cleaned (Drops s.at s.version mask.gone) r)) (sym (left_by g was says)) names
 
     takes : (base : Index) → IsShaped base → IsLegal base new → Dropping stands old d.number s base
         → TakesDead J base (take told.at new) (cleaned (Drops s.at s.version mask.gone) (drop_told told.word told.left))
-    takes (OfNodes g) shaped legal o = taken g shaped legal o.so (is.made.says (OfNodes g) (may_drop (OfNodes g) o))
+    takes (OfNodes g) shaped legal o = taken_by g (still_stands g shaped legal o.so) (is.made.says (OfNodes g) (may_drop (OfNodes g) o))
     takes (OfLists g) shaped legal o = absurd o.so
+
+    pub drop_does : Does (Dropping stands old d.number s) d old new ((told.at, cleaned (Drops s.at s.version mask.gone) (drop_told told.word told.left)) ∷ [])
+    drop_does = one_step may_drop is.made
 
     pub drop_made : ((base : Index) → Dropping stands old d.number s base → IsShaped base) → ((base : Index) → Dropping stands old d.number s base → IsLegal base new)
         → Making IsOfDrops (TakesDead J) (Dropping stands old d.number s) d old new
         ((told.at, cleaned (Drops s.at s.version mask.gone) (drop_told told.word told.left)) ∷ [])
     drop_made shaped legal = record {
-      does = one_step may_drop is.made;
+      does = drop_does;
       only = (of_drops s.at s.version mask.gone told.left told.word, tt);
       so = λ base o. (takes base (shaped base o) (legal base o) o, tt);
     }

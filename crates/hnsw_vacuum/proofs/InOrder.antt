@@ -67,7 +67,7 @@ kept_of p s q (suc n) dead before now steps apart all (inr made) =
 
 module _ (J : HeapId → Bool → Type 0) (g : Graph) (shaped : nodes.IsShaped g) {over : Index → Type 0} {d : Desk} {old new : List Act} {s : Seen} {before now : Tally}
     (legal : history.IsLegal g new) (x : MakesDrops J over d old new (DropsNode J s before now)) where
-  kept_at : (q : Tid) → (s.at ≡ q → ⊥) → NoneOf (IsIdsEndAt q) (events_of d.params (steps_of x.course))
+  pub kept_at : (q : Tid) → (s.at ≡ q → ⊥) → NoneOf (IsIdsEndAt q) (events_of d.params (steps_of x.course))
   kept_at q apart =
       kept_of d.params s q (mask_of x.is.answers) (dead_in x.is.answers) before now (steps_of x.course) apart (only_steps IsOfDrops x.course x.made.only) x.is.drops
 
@@ -102,7 +102,7 @@ no_nodes J left t ended =
 
 -- ---- lists
 
-at_index : {X : Type 0} (k : ℕ) (xs : List X) (x : X) → k < length xs → x ≡ slice_index_or xs k x → slice_get xs k ≡ Some x
+pub at_index : {X : Type 0} (k : ℕ) (xs : List X) (x : X) → k < length xs → x ≡ slice_index_or xs k x → slice_get xs k ≡ Some x
 at_index k [] x low is = absurd (omega (arith, low))
 at_index zero (y ∷ xs) x low is = ap Some (sym is)
 at_index (suc k) (y ∷ xs) x low is = at_index k xs x (omega (arith, low)) is

@@ -60,7 +60,7 @@ drop_at q (event.DiskFaulted count) h = h
 
 module _ (g : Graph) {desk : ℕ} {old new : List Act} {es : List Event} (legal : IsLegal g new) (x : Acts desk old new es) (stage : Stage)
     (none : NoneOf IsOfVacuum es) (p : IsInPhase old desk stage) where
-  phase_at : (j : ℕ) → length old ≤ j → j ≤ length new → IsInPhase (take j new) desk stage
+  pub phase_at : (j : ℕ) → length old ≤ j → j ≤ length new → IsInPhase (take j new) desk stage
   phase_at j low met =
       let long : length (take j new) ≡ j = length-take-le j new met in
       phase_stays g desk stage (take j new) (cut (IsAllowed g) new j legal) (length old) (omega (arith, long, low))

@@ -6,3 +6,7 @@ pub mod Drops
 pub mod InOrder
 pub mod PageNodes
 pub mod Pages
+pub mod Entries
+pub mod Sees
+pub mod SeesPages
+pub mod Marks

@@ -9,7 +9,6 @@ use Rattle.vec_names.specs.declared.params.Params.{Params}
 use Rattle.vec_history.specs.declared.event.Act.{Act}
 use Rattle.vec_history.specs.declared.stage.Stage.TheVariants.{Remove}
 use Rattle.vec_history.specs.Phases.{IsInPhase, IsOfVacuum}
-use Rattle.vec_graph.specs.declared.graph.Graph.{Graph}
 use Rattle.vec_graph.specs.Effect.{after}
 use Rattle.graph_search.specs.Reads.{Answer, Look, Seen, AtMeta, AtPage, OfMeta, OfPage, answer_of, nodes_on}
 use Rattle.graph_search.specs.Deeds.{looked}
@@ -25,7 +24,7 @@ use Rattle.vec_steps.specs.Calls.{Does, NoneOf, events_of, steps_of}
 use Rattle.vec_steps.proofs.Following.{one_step}
 use Rattle.hnsw_vacuum.specs.declared.tally.Tally.{Tally}
 use Rattle.hnsw_vacuum.specs.Tallies.{InTurn, IsIdle}
-use Rattle.hnsw_vacuum.specs.Courses.{IsNotStepped, IsStepped, Making, OverGraphs, OverNodes, StopsBy}
+use Rattle.hnsw_vacuum.specs.Courses.{IsGraphSo, IsNotStepped, IsStepped, Making, OverGraphs, OverNodes, StopsBy}
 use Rattle.hnsw_vacuum.specs.Dropping.{DropsNodes, IsOfDrops, MakesDrops, MayDropAll, StopsDrops, TakesDead}
 use Rattle.hnsw_vacuum.specs.Removing.{DropsPage, DropsPages, HasBlocks, IsOfLooks, IsOfRemove, LooksOnce, MakesRemoves, MayRemove, RemovesDead, SaysNoMore, StopsRemoves}
 use Rattle.hnsw_vacuum.proofs.Lasts.{blocks_last, phase_lasts}
@@ -78,7 +77,7 @@ module _ {stands : Index → Type 0} {d : Desk} {old : List Act} where
     meta_there (OfNodes g) stood o =
         let says : OfMeta told.tid told.level told.hint told.blocks ≡ answer_of (after g (take told.at new)) AtMeta = is.made.says (OfNodes g) (meta_asks (OfNodes g) o) in
         let same : told.blocks ≡ (after g new).blocks = ap blocks_of says ∙ ap (λ (l : List Act). (after g l).blocks) at_end_of_meta in
-        record { stood = stood; so = omega (arith, same) }
+        record { stood = stood; so = sym same }
     meta_there (OfLists g) stood o = absurd o.so
 
 -- ---- a page
@@ -108,11 +107,16 @@ module _ {stands : Index → Type 0} {d : Desk} {old : List Act} (block : ℕ) w
         let here : told.at ≡ length new = is.made.came.here ∙ sym (length-append old is.made.came.others) ∙ ap (λ (l : List Act). length l) (sym all) in
         ap (λ n. take n new) here ∙ take-length new
 
+    pub page_are : (base : Index) → Removing stands old d.number (block + 1) base → IsGraphSo (λ g. map seen_told told.nodes ≡ nodes_on (after g new) block) base
+    page_are (OfNodes g) o =
+        let says : OfPage (map seen_told told.nodes) ≡ OfPage (nodes_on (after g (take told.at new)) block) = is.made.says (OfNodes g) (page_asks (OfNodes g) o) in
+        ap page_of says ∙ ap (λ (l : List Act). nodes_on (after g l) block) at_end
+    page_are (OfLists g) o = absurd o.so
+
     pub page_may : {later : Index → Type 0} (base : Index) → later base → IsShaped base → IsLegal base new → Removing stands old d.number (block + 1) base
         → OverGraphs later (λ g. MayDropAll g new d.number (map seen_told told.nodes)) base
     page_may (OfNodes g) stood shaped legal o =
-        let says : OfPage (map seen_told told.nodes) ≡ OfPage (nodes_on (after g (take told.at new)) block) = is.made.says (OfNodes g) (page_asks (OfNodes g) o) in
-        let told_are : map seen_told told.nodes ≡ nodes_on (after g new) block = ap page_of says ∙ ap (λ (l : List Act). nodes_on (after g l) block) at_end in
+        let told_are : map seen_told told.nodes ≡ nodes_on (after g new) block = page_are (OfNodes g) o in
         let all : MayDropAll g new d.number (nodes_on (after g new) block) = record {
           phase = phase_lasts g legal page_does.acts Remove tt o.so.phase;
           stand = nodes_stand (after g new) block;
@@ -235,7 +239,7 @@ pub all_pages : {stands later : Index → Type 0} {d e : Desk} {old new : List A
     → Removing later new e.number count base
 all_pages {d = d} {e = e} {old = old} {new = new} {count = count} same phase x (OfNodes g) legal o there =
     let now : IsInPhase new d.number Remove = phase_lasts g legal x.does.acts Remove tt phase in
-    record { stood = there.stood; so = record { phase = subst (λ (k : Desk). IsInPhase new k.number Remove) (sym same) now; there = there.so } }
+    record { stood = there.stood; so = record { phase = subst (λ (k : Desk). IsInPhase new k.number Remove) (sym same) now; there = let blocks : (after g new).blocks ≡ count = there.so in omega (arith, blocks) } }
 all_pages same phase x (OfLists g) legal o there = absurd o.so
 
 pub all_removed : {over later : Index → Type 0} {d e : Desk} {old mid new : List Act} {t u v : List ℕ} {entry : Option Tid} {level hint blocks : ℕ} {before now : Tally}

@@ -1,5 +1,5 @@
 -- Parts of a vacuum, one after the other, and what such steps leave as it was.
-use Rattle.std.proofs.Common.{◌≡◌, ℕ, true, false, Bool, List, [], ◌∷◌, ◌++◌, refl, sym, ap, subst, ◌∙◌, append-nil, append_assoc}
+use Rattle.std.proofs.Common.{◌≡◌, ℕ, true, false, List, [], ◌∷◌, ◌++◌, refl, sym, ap, subst, ◌∙◌, append-nil, append_assoc}
 use Rattle.std.specs.List.{AllByRecursion}
 use Rattle.vec_names.specs.declared.params.Params.{Params}
 use Rattle.vec_history.specs.declared.event.Event.{Event}

@@ -3,3 +3,5 @@ pub mod Courses
 pub mod Tallies
 pub mod Dropping
 pub mod Removing
+pub mod Taking
+pub mod Marking

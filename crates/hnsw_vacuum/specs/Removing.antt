@@ -28,7 +28,7 @@ pub record MayRemove (base : Graph) (acts : List Act) (desk count : ℕ) : Type 
 
 -- there are so many blocks
 abbrev pub HasBlocks : List Act → ℕ → Graph → Type 0
-HasBlocks acts count base = count ≤ (after base acts).blocks
+HasBlocks acts count base = (after base acts).blocks ≡ count
 
 -- ---- steps
 

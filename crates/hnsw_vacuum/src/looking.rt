@@ -1,11 +1,12 @@
 //! Looks at the meta tuple and at pages.
 
 ghost use Rattle.std.specs.Prelude.{◌≡◌, ◌+◌, ℕ, map, length, IfErr, OnOk};
-ghost use Rattle.graph_search.specs.Reads.{AtMeta, AtPage, OfMeta, OfPage};
+ghost use Rattle.vec_graph.specs.Effect.{after};
+ghost use Rattle.graph_search.specs.Reads.{AtMeta, AtPage, OfMeta, OfPage, nodes_on};
 ghost use Rattle.vec_steps.specs.Index.{Index};
 ghost use Rattle.vec_steps.specs.Telling.{seen_told};
 ghost use Rattle.vec_steps.specs.Calls.{Goes};
-ghost use Rattle.hnsw_vacuum.specs.Courses.{OverGraphs, OverNodes, StopsBy};
+ghost use Rattle.hnsw_vacuum.specs.Courses.{IsGraphSo, OverGraphs, OverNodes, StopsBy};
 ghost use Rattle.hnsw_vacuum.specs.Dropping.{MayDropAll};
 ghost use Rattle.hnsw_vacuum.specs.Removing.{HasBlocks, IsOfLooks, LooksOnce, MayRemove, SaysNoMore};
 
@@ -50,6 +51,9 @@ pub fn look_at_page<S: Steps>(
     ensures ok { OnOk result (LooksOnce (OverGraphs (S.stands steps.old) (λ g. MayRemove g (S.seen steps.old)
         (S.desk steps.old).number (block + 1))) (S.desk steps.old) (S.seen steps.old) (S.seen steps.new) trace.old.reads trace.new.reads
         (AtPage block) (OfPage (map seen_told nodes.new))) }
+    ensures are { OnOk result ((base : Index) → OverGraphs (S.stands steps.old) (λ g. MayRemove g (S.seen steps.old)
+        (S.desk steps.old).number (block + 1)) base → IsGraphSo (λ g. map seen_told nodes.new ≡ nodes_on (after g (S.seen steps.new)) block)
+        base) }
     ensures may { OnOk result ((base : Index) → OverGraphs (S.stands steps.old) (λ g. MayRemove g (S.seen steps.old)
         (S.desk steps.old).number (block + 1)) base → OverGraphs (S.stands steps.new) (λ g. MayDropAll g (S.seen steps.new)
         (S.desk steps.old).number (map seen_told nodes.new)) base) }

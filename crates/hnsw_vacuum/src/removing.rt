@@ -1,11 +1,13 @@
 //! The first pass of a vacuum.
 
-ghost use Rattle.std.specs.Prelude.{◌≡◌, ◌+◌, ◌-◌, ℕ, List, false, length, IfOk, IfErr};
+ghost use Rattle.std.specs.Prelude.{◌≡◌, ⊤, ◌+◌, ◌-◌, ℕ, List, false, length, IfOk, IfErr};
 ghost use Rattle.vec_history.specs.declared.stage.Stage.TheVariants.{Remove};
 ghost use Rattle.vec_history.specs.Phases.{IsInPhase};
+ghost use Rattle.vec_steps.specs.Index.{Index};
 ghost use Rattle.vec_steps.specs.Calls.{Goes};
 ghost use Rattle.hnsw_vacuum.specs.Courses.{OverGraphs, OverNodes};
 ghost use Rattle.hnsw_vacuum.specs.Removing.{DropsPage, DropsPages, MakesRemoves, MayRemove, RemovesDead, StopsRemoves};
+ghost use Rattle.hnsw_vacuum.specs.Taking.{IsOfBlocks, IsOnBlock, SeesToOver};
 
 use crate::dropping::drop_all;
 use crate::looking::{look_at_meta, look_at_page};
@@ -16,7 +18,8 @@ use vec_steps::{OpFault, Seen, Steps, Told, Trace};
 
 // Looks at a page, and takes the rows out of its nodes that the test calls dead.
 //
-// The desk is in the phase Remove of its vacuum, and the block is there. `nodes` is room for what the page tells.
+// The desk is in the phase Remove of its vacuum, and the block is there. `nodes` is room for what
+// the page tells.
 fn remove_on<S: Steps, F: Fn(HeapId) -> bool>(
     steps: &mut S,
     dead: &F,
@@ -35,6 +38,11 @@ fn remove_on<S: Steps, F: Fn(HeapId) -> bool>(
     ensures ok { IfOk result (λ now. MakesRemoves (λ id b. F.post dead.now id b) (OverGraphs (S.stands steps.old) (λ g. MayRemove g
         (S.seen steps.old) (S.desk steps.old).number (block + 1))) (S.desk steps.old) (S.seen steps.old) (S.seen steps.new)
         trace.old.reads trace.new.reads (DropsPage (λ id b. F.post dead.now id b) block tally now)) }
+    ensures sees_to { IfOk result (λ now. now.due ≡ false → (base : Index) → OverGraphs (S.stands steps.old) (λ g. MayRemove g
+        (S.seen steps.old) (S.desk steps.old).number (block + 1)) base
+        → SeesToOver (λ id b. F.post dead.now id b) (IsOfBlocks block (block + 1)) (IsOnBlock block (block + 1))
+        (S.seen steps.old) (S.seen steps.new)
+        (S.desk steps.old).number base) }
     ensures err { IfErr result (StopsRemoves (λ id b. F.post dead.now id b) (OverGraphs (S.stands steps.old) (λ g. MayRemove g
         (S.seen steps.old) (S.desk steps.old).number (block + 1))) (S.desk steps.old) (S.seen steps.old) (S.seen steps.new)) }
 {
@@ -43,7 +51,8 @@ fn remove_on<S: Steps, F: Fn(HeapId) -> bool>(
     Ok(now)
 }
 
-// Does so for each page from block 1 on, up to so many blocks, and stops where a Drop is due for which nothing is left.
+// Does so for each page from block 1 on, up to so many blocks, and stops where a Drop is due for
+// which nothing is left.
 //
 // The desk is in the phase Remove of its vacuum, and the blocks are there.
 fn remove_pages<S: Steps, F: Fn(HeapId) -> bool>(
@@ -64,6 +73,10 @@ fn remove_pages<S: Steps, F: Fn(HeapId) -> bool>(
     ensures ok { IfOk result (λ now. MakesRemoves (λ id b. F.post dead.now id b) (OverGraphs (S.stands steps.old) (λ g. MayRemove g
         (S.seen steps.old) (S.desk steps.old).number count)) (S.desk steps.old) (S.seen steps.old) (S.seen steps.new)
         trace.old.reads trace.new.reads (DropsPages (λ id b. F.post dead.now id b) 1 (count - 1) tally now)) }
+    ensures sees_to { IfOk result (λ now. now.due ≡ false → (base : Index) → OverGraphs (S.stands steps.old) (λ g. MayRemove g
+        (S.seen steps.old) (S.desk steps.old).number count) base
+        → SeesToOver (λ id b. F.post dead.now id b) (IsOfBlocks 1 count) (λ at. ⊤) (S.seen steps.old) (S.seen steps.new)
+        (S.desk steps.old).number base) }
     ensures err { IfErr result (StopsRemoves (λ id b. F.post dead.now id b) (OverGraphs (S.stands steps.old) (λ g. MayRemove g
         (S.seen steps.old) (S.desk steps.old).number count)) (S.desk steps.old) (S.seen steps.old) (S.seen steps.new)) }
 {
@@ -77,11 +90,12 @@ fn remove_pages<S: Steps, F: Fn(HeapId) -> bool>(
     Ok(now)
 }
 
-/// The first pass: looks at the meta tuple and at each page from block 1 on, in their order, and takes the rows out of their nodes that the
-/// test calls dead. Where a Drop is due and nothing is left of the budget, it stops and says so.
+/// The first pass: looks at the meta tuple and at each page from block 1 on, in their order, and
+/// takes the rows out of their nodes that the test calls dead. Where a Drop is due and nothing is
+/// left of the budget, it stops and says so.
 ///
-/// The desk is in the phase Remove of its vacuum. The errors are those of a step, `LogFull`, `Disk` and `Memory`; also at these only rows
-/// that the test calls dead are out.
+/// The desk is in the phase Remove of its vacuum. The errors are those of a step, `LogFull`, `Disk`
+/// and `Memory`; also at these only rows that the test calls dead are out.
 pub fn remove<S: Steps, F: Fn(HeapId) -> bool>(
     alloc: Global,
     steps: &mut S,
@@ -98,6 +112,9 @@ pub fn remove<S: Steps, F: Fn(HeapId) -> bool>(
     ensures told { length told.new.bits ≡ (S.desk steps.old).params.bits }
     ensures ok { IfOk result (λ now. MakesRemoves (λ id b. F.post dead.now id b) (OverNodes (S.stands steps.old)) (S.desk steps.old)
         (S.seen steps.old) (S.seen steps.new) trace.old.reads trace.new.reads (RemovesDead (λ id b. F.post dead.now id b) tally now)) }
+    ensures sees_to { IfOk result (λ now. now.due ≡ false → (base : Index) → OverNodes (S.stands steps.old) base
+        → SeesToOver (λ id b. F.post dead.now id b) (λ at number. ⊤) (λ at. ⊤) (S.seen steps.old) (S.seen steps.new)
+        (S.desk steps.old).number base) }
     ensures err { IfErr result (StopsRemoves (λ id b. F.post dead.now id b) (OverNodes (S.stands steps.old)) (S.desk steps.old)
         (S.seen steps.old) (S.seen steps.new)) }
 {

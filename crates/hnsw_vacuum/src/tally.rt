@@ -2,9 +2,10 @@
 
 ghost use Rattle.std.specs.Prelude.{◌≡◌, ◌+◌, true, IfOk, IfErr};
 ghost use Rattle.vec_steps.specs.declared.fault.OpFault.TheVariants.{Memory};
-ghost use Rattle.vec_steps.specs.Telling.{drop_told};
+ghost use Rattle.vec_steps.specs.Telling.{clear_told, drop_told};
 ghost use Rattle.hnsw_vacuum.specs.Tallies.{is_spent, one_less};
 ghost use Rattle.hnsw_vacuum.specs.Dropping.{counts_drop};
+ghost use Rattle.hnsw_vacuum.specs.Marking.{counts_mark};
 
 use vec_steps::{OpFault, Word};
 
@@ -74,6 +75,25 @@ pub fn counts_drop(tally: Tally, dead: u8, word: Word, left: u8) -> Result<Tally
             Ok(Tally {
                 removed,
                 marked: tally.marked,
+                left: one_less(tally.left),
+                due: tally.due,
+            })
+        }
+        _ => Ok(tally),
+    }
+}
+
+// With the node of a Mark, by its word.
+pub fn counts_mark(tally: Tally, word: Word) -> Result<Tally, OpFault>
+    ensures counted { IfOk result (λ t. t ≡ counts_mark (clear_told word) tally) }
+    ensures memory { IfErr result (λ e. e ≡ Memory) }
+{
+    match word {
+        Word::Done => {
+            let marked = sum(tally.marked, 1)?;
+            Ok(Tally {
+                removed: tally.removed,
+                marked,
                 left: one_less(tally.left),
                 due: tally.due,
             })

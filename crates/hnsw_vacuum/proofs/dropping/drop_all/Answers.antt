@@ -1,10 +1,11 @@
-use Rattle.std.proofs.Common.{ap, sym, ◌∙◌, arith}
+use Rattle.std.proofs.Common.{◌+◌, ap, drop, map, sym, take, take-append-drop, ◌∙◌, arith, true≢false}
 use Rattle.vec_steps.specs.Desks.{Desk}
 use Rattle.vec_steps.specs.Telling.{seen_told}
-use Rattle.vec_steps.proofs.Following.{goes_nowhere, goes_then}
+use Rattle.vec_steps.proofs.Following.{acts_longer, goes_nowhere, goes_then}
 use Rattle.hnsw_vacuum.proofs.Stopped.{handed, stops_then}
 use Rattle.hnsw_vacuum.proofs.Turns.{last_part, nothing_yet, one_part, whole}
-use Rattle.hnsw_vacuum.proofs.InOrder.{first_of, next_of, no_nodes, none_left, of_next, rest_of}
+use Rattle.hnsw_vacuum.proofs.InOrder.{at_index, first_of, next_of, no_nodes, none_left, of_next, rest_of}
+use Rattle.hnsw_vacuum.proofs.Sees.{next_seen, none_seen, seen_of_all, take_next, take_whole}
 use Rattle.hnsw_vacuum.proofs.dropping.drop_all.Goals as goal
 
 pub node-init : goal.node-init
@@ -12,6 +13,7 @@ node-init g c = record {
   goes = goes_nowhere g.met.S.Steps.comes_itself c.args.steps.now (λ base o. o.stood);
   told = c.requires.told;
   so_far = nothing_yet (g.S.Steps.seen c.args.steps.now) _ c.args.tally c.requires.going;
+  sees_to = λ base o. none_seen base o;
   may = λ base o. o;
 }
 
@@ -55,6 +57,14 @@ node-preserved g c =
       goes = goes_then g.met.S.Steps.comes_on (λ base o. first_of so.goes.stays next base (so.may base o)) so.goes c.in_ok-now.ensures.goes;
       told = c.in_ok-now.ensures.told ∙ ap (λ (d : Desk). d.params.bits) so.goes.stays;
       so_far = one_part so.goes.stays (λ base o. first_of so.goes.stays next base (so.may base o)) (of_next (λ id b. g.F.Fn.post c.args.dead.now (id, tt) b) next so.so_far) c.in_ok-now.ensures.ok c.if-now.false;
+      sees_to = λ base o.
+          let at = first_of so.goes.stays next base (so.may base o) in
+          let all = map seen_told c.args.nodes.now in
+          seen_of_all (take_next seen_told c.node.k c.args.nodes.now c.index-nodes-k.result
+          (at_index c.node.k c.args.nodes.now c.index-nodes-k.result (omega (arith, c.node-test.true)) c.index-nodes-k.is)) base
+          (next_seen all (take c.node.k all) (drop (c.node.k + 1) all) (drop c.node.k all) (seen_told c.index-nodes-k.result) so.goes.stays
+          (acts_longer so.so_far.made.does.acts) c.in_ok-now.ensures.ok.made.does.acts (sym (take-append-drop c.node.k all)) next base o (so.sees_to base o)
+          (c.in_ok-now.ensures.sees_to c.if-now.false base at));
       may = λ base o.
           let stood = c.in_ok-now.ensures.goes.still_stands base (first_of so.goes.stays next base (so.may base o)) in
           rest_of (λ id b. g.F.Fn.post c.args.dead.now (id, tt) b) so.goes.stays next c.in_ok-now.ensures.ok base stood
@@ -71,3 +81,10 @@ pub returns-clause-ok : goal.returns-clause-ok
 returns-clause-ok g c =
     let so = c.node.invariant in
     whole so.so_far (no_nodes (λ id b. g.F.Fn.post c.args.dead.now (id, tt) b) _ c.node.now (none_left seen_told c.node.k c.args.nodes.now (omega (arith, c.node-test.false))))
+
+pub returns-then-now-clause-sees_to : goal.returns-then-now-clause-sees_to
+returns-then-now-clause-sees_to g c = λ going base o. absurd (true≢false (sym c.if-now.true ∙ going))
+
+pub returns-clause-sees_to : goal.returns-clause-sees_to
+returns-clause-sees_to g c = λ going base o.
+    seen_of_all (take_whole seen_told c.node.k c.args.nodes.now (omega (arith, c.node-test.false))) base (c.node.invariant.sees_to base o)

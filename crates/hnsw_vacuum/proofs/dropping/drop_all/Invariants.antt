@@ -1,9 +1,10 @@
-use Rattle.std.proofs.Common.{◌≡◌, Bool, [], drop, length, map}
+use Rattle.std.proofs.Common.{◌≡◌, Bool, [], drop, length, map, take}
 use Rattle.vec_names.specs.declared.heap_id.HeapId.{HeapId}
 use Rattle.vec_steps.specs.Index.{Index}
 use Rattle.vec_steps.specs.Telling.{seen_told}
 use Rattle.vec_steps.specs.Calls.{Goes}
 use Rattle.hnsw_vacuum.specs.Dropping.{DropsNodes, IsOfDrops, TakesDead}
+use Rattle.hnsw_vacuum.specs.Taking.{IsOfNodes, IsPlaceOfAny, SeesToOver}
 use Rattle.hnsw_vacuum.proofs.Turns.{SoFar}
 use Rattle.hnsw_vacuum.proofs.InOrder.{DroppingAll}
 use Rattle.hnsw_vacuum.proofs.dropping.drop_all.Given as goal
@@ -19,6 +20,8 @@ invariant-node g l =
       told : length l.told.bits ≡ (S.desk l.fn.steps).params.bits;
       so_far : SoFar IsOfDrops (TakesDead J) over (S.desk l.fn.steps) (S.seen l.fn.steps) (S.seen l.steps) [] [] (DropsNodes J (map seen_told l.nodes))
           (DropsNodes J (drop l.k (map seen_told l.nodes))) l.fn.tally l.now;
+      sees_to : (base : Index) → over base → SeesToOver J (IsOfNodes (take l.k (map seen_told l.nodes))) (IsPlaceOfAny (take l.k (map seen_told l.nodes)))
+          (S.seen l.fn.steps) (S.seen l.steps) (S.desk l.fn.steps).number base;
       may : (base : Index) → over base
           → DroppingAll (S.stands l.steps) (S.seen l.steps) (S.desk l.fn.steps).number (drop l.k (map seen_told l.nodes)) base;
     }

@@ -1,10 +1,10 @@
 use Rattle.std.proofs.Common.{sym, subst, ◌∙◌}
-use Rattle.step_gates.proofs.Exits.{fails}
 use Rattle.vec_steps.specs.Telling.{seen_told}
 use Rattle.vec_steps.proofs.Following.{goes_over}
 use Rattle.hnsw_vacuum.specs.Masks.{IsMaskOf}
 use Rattle.hnsw_vacuum.proofs.Stopped.{handed, step_fails, stops_memory}
 use Rattle.hnsw_vacuum.proofs.Drops.{dead_dropped, dead_fault, drop_due, drop_made, may_drop, none_dead, none_of_deleted, of_fault}
+use Rattle.hnsw_vacuum.proofs.Sees.{alive_seen, deleted_seen, due_seen, node_seen}
 use Rattle.hnsw_vacuum.proofs.dropping.drop_dead.Goals as goal
 
 pub returns-then-seen-clause-ok : goal.returns-then-seen-clause-ok
@@ -53,3 +53,27 @@ returns-clause-ok g c =
     (λ base o. g.met.S.Steps.shaped c.args.steps.now base o.stood)
     (λ base o. g.met.S.Steps.legal c.ask_step.new.steps base (c.in_ok-ask_step.ensures.goes.still_stands base ((may_drop (λ id b. g.F.Fn.post c.args.dead.now (id, tt) b) (seen_told c.args.seen.now) c.judge-mask.result c.if-seen.false (subst (λ l. IsMaskOf (λ id b. g.F.Fn.post c.args.dead.now (id, tt) b) l c.judge-mask.result) c.as_slice.ensures.value c.judge-mask.ensures) c.if-mask-eq0.false) base o)))
     c.args.tally c.in_ok-counted.counted (sym c.is_spent.ensures ∙ c.if-is_spent.false) c.in_ok-counted.ensures.counted
+
+pub returns-then-seen-clause-sees_to : goal.returns-then-seen-clause-sees_to
+returns-then-seen-clause-sees_to g c = λ going base o. deleted_seen (λ id b. g.F.Fn.post c.args.dead.now (id, tt) b) (seen_told c.args.seen.now) c.if-seen.true base o
+
+pub returns-then-mask-eq0-clause-sees_to : goal.returns-then-mask-eq0-clause-sees_to
+returns-then-mask-eq0-clause-sees_to g c = λ going base o.
+    alive_seen (λ id b. g.F.Fn.post c.args.dead.now (id, tt) b) (seen_told c.args.seen.now) c.judge-mask.result c.if-seen.false (subst (λ l. IsMaskOf (λ id b. g.F.Fn.post c.args.dead.now (id, tt) b) l c.judge-mask.result) c.as_slice.ensures.value c.judge-mask.ensures) c.if-mask-eq0.true base o
+
+pub returns-then-is_spent-clause-sees_to : goal.returns-then-is_spent-clause-sees_to
+returns-then-is_spent-clause-sees_to g c = λ going base o. due_seen (λ id b. g.F.Fn.post c.args.dead.now (id, tt) b) (seen_told c.args.seen.now) c.args.tally c.now_due.result c.now_due.ensures going base o
+
+pub returns-clause-sees_to : goal.returns-clause-sees_to
+returns-clause-sees_to g c = λ going base o.
+    node_seen (λ id b. g.F.Fn.post c.args.dead.now (id, tt) b) (seen_told c.args.seen.now) c.judge-mask.result c.if-seen.false
+    (subst (λ l. IsMaskOf (λ id b. g.F.Fn.post c.args.dead.now (id, tt) b) l c.judge-mask.result) c.as_slice.ensures.value c.judge-mask.ensures) c.if-mask-eq0.false
+    c.in_ok-ask_step.ensures.ok
+    (dead_dropped (λ id b. g.F.Fn.post c.args.dead.now (id, tt) b) (seen_told c.args.seen.now) c.judge-mask.result c.if-seen.false
+    (subst (λ l. IsMaskOf (λ id b. g.F.Fn.post c.args.dead.now (id, tt) b) l c.judge-mask.result) c.as_slice.ensures.value c.judge-mask.ensures) c.if-mask-eq0.false
+    c.in_ok-ask_step.ensures.ok
+    (λ base o. g.met.S.Steps.shaped c.args.steps.now base o.stood)
+    (λ base o. g.met.S.Steps.legal c.ask_step.new.steps base (c.in_ok-ask_step.ensures.goes.still_stands base ((may_drop (λ id b. g.F.Fn.post c.args.dead.now (id, tt) b) (seen_told c.args.seen.now) c.judge-mask.result c.if-seen.false (subst (λ l. IsMaskOf (λ id b. g.F.Fn.post c.args.dead.now (id, tt) b) l c.judge-mask.result) c.as_slice.ensures.value c.judge-mask.ensures) c.if-mask-eq0.false) base o)))
+    c.args.tally c.in_ok-counted.counted (sym c.is_spent.ensures ∙ c.if-is_spent.false) c.in_ok-counted.ensures.counted)
+    base o (g.met.S.Steps.shaped c.args.steps.now base o.stood)
+    (g.met.S.Steps.legal c.ask_step.new.steps base (c.in_ok-ask_step.ensures.goes.still_stands base (may_drop (λ id b. g.F.Fn.post c.args.dead.now (id, tt) b) (seen_told c.args.seen.now) c.judge-mask.result c.if-seen.false (subst (λ l. IsMaskOf (λ id b. g.F.Fn.post c.args.dead.now (id, tt) b) l c.judge-mask.result) c.as_slice.ensures.value c.judge-mask.ensures) c.if-mask-eq0.false base o)))

@@ -1,12 +1,14 @@
 use Rattle.step_gates.proofs.Exits.{fails}
-use Rattle.std.proofs.Common.{map, subst, sym}
+use Rattle.std.proofs.Common.{◌≡◌, map, subst, sym}
 use Rattle.std.specs.Prelude.{List}
+use Rattle.vec_graph.specs.Effect.{after}
+use Rattle.graph_search.specs.Reads.{nodes_on}
 use Rattle.vec_steps.specs.declared.seen.Seen.{Seen}
 use Rattle.vec_steps.specs.Telling.{seen_told}
-use Rattle.hnsw_vacuum.specs.Courses.{OverGraphs}
+use Rattle.hnsw_vacuum.specs.Courses.{IsGraphSo, OverGraphs}
 use Rattle.hnsw_vacuum.specs.Dropping.{MayDropAll}
 use Rattle.hnsw_vacuum.proofs.Stopped.{handed, stops_memory}
-use Rattle.hnsw_vacuum.proofs.Pages.{page_asks, page_fails, page_made, page_may}
+use Rattle.hnsw_vacuum.proofs.Pages.{page_are, page_asks, page_fails, page_made, page_may}
 use Rattle.hnsw_vacuum.proofs.looking.look_at_page.Goals as goal
 
 pub returns-in_err-ask_step-clause-err : goal.returns-in_err-ask_step-clause-err
@@ -23,3 +25,8 @@ returns-clause-may g c = λ base o.
     subst (λ (l : List Seen). OverGraphs (g.S.Steps.stands c.ask_step.new.steps) (λ h. MayDropAll h (g.S.Steps.seen c.ask_step.new.steps) (g.S.Steps.desk c.args.steps.now).number (map seen_told l)) base)
     (sym c.swap.ensures.x_after)
     (page_may c.args.block c.in_ok-ask_step.ensures.ok base st (g.met.S.Steps.shaped c.ask_step.new.steps base st) (g.met.S.Steps.legal c.ask_step.new.steps base st) o)
+
+pub returns-clause-are : goal.returns-clause-are
+returns-clause-are g c = λ base o.
+    subst (λ (l : List Seen). IsGraphSo (λ h. map seen_told l ≡ nodes_on (after h (g.S.Steps.seen c.ask_step.new.steps)) c.args.block) base)
+    (sym c.swap.ensures.x_after) (page_are c.args.block c.in_ok-ask_step.ensures.ok base o)

@@ -4,6 +4,7 @@ use Rattle.vec_steps.specs.Index.{Index}
 use Rattle.vec_steps.specs.Calls.{Goes}
 use Rattle.hnsw_vacuum.specs.Dropping.{TakesDead}
 use Rattle.hnsw_vacuum.specs.Removing.{DropsPages, IsOfRemove}
+use Rattle.hnsw_vacuum.specs.Taking.{IsOfBlocks, IsOnBlock, SeesToOver}
 use Rattle.hnsw_vacuum.proofs.Turns.{SoFar}
 use Rattle.hnsw_vacuum.proofs.Pages.{Removing}
 use Rattle.hnsw_vacuum.proofs.removing.remove_pages.Given as goal
@@ -20,5 +21,7 @@ invariant-page g l =
       from : 1 ≤ l.block;
       so_far : SoFar IsOfRemove (TakesDead J) over (S.desk l.fn.steps) (S.seen l.fn.steps) (S.seen l.steps) l.fn.trace.reads l.trace.reads
           (DropsPages J 1 (l.count - 1)) (DropsPages J l.block (l.count - l.block)) l.fn.tally l.now;
+      sees_to : (base : Index) → over base → SeesToOver J (IsOfBlocks 1 l.block) (IsOnBlock 1 l.block) (S.seen l.fn.steps) (S.seen l.steps)
+          (S.desk l.fn.steps).number base;
       may : (base : Index) → over base → Removing (S.stands l.steps) (S.seen l.steps) (S.desk l.fn.steps).number l.count base;
     }
