@@ -7,3 +7,4 @@ pub mod RedoneEvents
 pub mod Marking
 pub mod Rebuilt
 pub mod Opened
+pub mod Created

@@ -106,7 +106,7 @@ here_in list k low =
     let there = slice_get-get_or list k 0 low in
     (k, low, get_or_from_slice_get list k (slice_index list k) (slice_index list k) there)
 
-rising_more : (list : List ℕ) (block : ℕ) → IsStrictlyIncreasing list → ((b : ℕ) → Contains list b → b < block) → IsStrictlyIncreasing (list ++ block ∷ [])
+pub rising_more : (list : List ℕ) (block : ℕ) → IsStrictlyIncreasing list → ((b : ℕ) → Contains list b → b < block) → IsStrictlyIncreasing (list ++ block ∷ [])
 rising_more list block rising low k within = by (nat_lt (k + 1) (length list)) refl where
   long : k + 1 < length list + 1
   long = omega (arith, within, length_push list block)
@@ -131,7 +131,7 @@ up_to_none marks = record {
   each = λ b. (λ there. absurd (omega (arith, there.1)), λ both. absurd (omega (arith, both.0)));
 }
 
-below_next : (b block : ℕ) → b < block + 1 → (b < block) ⊎ (b ≡ block)
+pub below_next : (b block : ℕ) → b < block + 1 → (b < block) ⊎ (b ≡ block)
 below_next b block low = by (nat_lt b block) refl where
   by : (t : Bool) → nat_lt b block ≡ t → (b < block) ⊎ (b ≡ block)
   by true e = inl (ltb-true _ _ e)

@@ -4,3 +4,5 @@ pub mod Recovering
 pub mod Telling
 -- Helper words of the functions.
 pub mod Parts
+-- A new index on disks.
+pub mod Creating

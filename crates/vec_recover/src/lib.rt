@@ -1,8 +1,10 @@
-//! Opening an index: what the bytes of its three areas recover to.
+//! An index on its disks: what the bytes of its three areas recover to, and how a new one is put there.
 //!
-//! The definitions stand in specs/: `Recovering` (the pages before the events, the events redone, and what is wrong where).
+//! The definitions stand in specs/: `Recovering` (the pages before the events, the events redone, and what is wrong where) and
+//! `Creating` (the first epoch, and what an image reads as meanwhile).
 #![tactic(auto)]
 
+mod creating;
 mod first_pages;
 mod judging;
 mod reading;
@@ -10,6 +12,7 @@ mod redoing;
 mod replaying;
 mod unwritten;
 
+pub use creating::create;
 pub use reading::{ReadIndex, read_index};
 
 #[cfg(test)]

@@ -1,3 +1,5 @@
+ghost use Rattle.std.specs.Prelude.{◌≡◌, IfOk, length};
+
 use crate::*;
 use page_bytes::{Page, PageKind};
 use page_log::OpenFault;
@@ -146,5 +148,37 @@ fn the_pages(rt: HostRuntime) -> Result<(), AllocError> {
     };
     assert_eq!(rt; counts, (1, 2, 1));
     assert_eq!(rt; (read.loaded.epoch, read.loaded.end), (1, 8_301));
+    Ok(())
+}
+
+/// The pages of an index without nodes.
+fn empty(alloc: Global) -> Result<Vec<Page>, AllocError>
+    ensures { IfOk result (λ pages. length pages.items ≡ 1) }
+{
+    let mut page = Page::fresh(PageKind::Meta);
+    page.add_item(&META);
+    let mut pages = Vec::new(alloc);
+    pages.push(page)?;
+    Ok(pages)
+}
+
+/// What is created is read: one page, which has an image, and no event.
+#[test]
+fn created_and_read(rt: HostRuntime) -> Result<(), AllocError> {
+    let alloc = rt.alloc();
+    let log0 = vec![in alloc; 0; 40]?;
+    let log1 = vec![in alloc; 0; 40]?;
+    let mut disks = MemDisks::over(alloc, Vec::new(alloc), log0, log1, Vec::new(alloc));
+    let Ok(loaded) = create(alloc, &mut disks, empty(alloc)?) else {
+        return Err(AllocError);
+    };
+    assert_eq!(rt;
+        (loaded.epoch, loaded.end, loaded.unwritten.len()),
+        (1, 8_236, 1)
+    );
+    assert_eq!(rt;
+        told_of(read_index(alloc, &mut disks)),
+        Told::Index(2, 1, 0, 0, 1)
+    );
     Ok(())
 }
