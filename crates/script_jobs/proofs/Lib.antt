@@ -1,0 +1,5 @@
+pub mod Sums
+pub mod Looked
+pub mod Chain
+pub mod UpdateAlone
+pub mod Replied
