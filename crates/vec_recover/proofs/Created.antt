@@ -50,7 +50,7 @@ places_there n pairs is = subst (All (λ (pair : ℕ × ℕ). pair.1 < n)) (sym 
     let below = here_pair n 0 k d low in
     omega (arith, below))
 
-image_next : (pages : List Content) (k block : ℕ) (page : Content) → slice_get pages block ≡ Some page
+pub image_next : (pages : List Content) (k block : ℕ) (page : Content) → slice_get pages block ≡ Some page
     → images_of pages (each_block (suc k) block) ≡ (block, page) ∷ images_of pages (each_block k (suc block))
 image_next pages k block page there = ap (λ (o : Option Content). with_page block o (images_of pages (each_block k (suc block)))) there
 

@@ -8,3 +8,4 @@ pub mod Marking
 pub mod Rebuilt
 pub mod Opened
 pub mod Created
+pub mod CreatedIndex

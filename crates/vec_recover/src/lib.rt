@@ -7,12 +7,14 @@
 mod creating;
 mod first_pages;
 mod judging;
+mod law;
 mod reading;
 mod redoing;
 mod replaying;
 mod unwritten;
 
 pub use creating::create;
+pub use law::law_created;
 pub use reading::{ReadIndex, read_index};
 
 #[cfg(test)]
