@@ -1,0 +1,5 @@
+//! Scans over a small desk that takes the gate: their tests.
+#![tactic(auto)]
+
+#[cfg(test)]
+mod tests;
