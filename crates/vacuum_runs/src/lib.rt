@@ -1,0 +1,5 @@
+//! Passes of a vacuum over a small desk: their tests.
+#![tactic(auto)]
+
+#[cfg(test)]
+mod tests;
