@@ -3,7 +3,7 @@
 ghost use Rattle.std.specs.Prelude.{◌≡◌, IfOk, length};
 ghost use Rattle.vec_names.specs.Params.{IsInRange};
 
-use crate::{PageList, PageSet, look, look_meta};
+use page_sets::{PageList, PageSet, look, look_meta};
 use bit_code::read_bits;
 use page_bytes::{Page, PageKind};
 use page_redo::RedoFault;

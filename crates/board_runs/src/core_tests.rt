@@ -3,7 +3,7 @@
 ghost use Rattle.std.specs.Prelude.{◌≡◌, ◌≤◌, ◌-◌, IfOk, length, vec_len};
 ghost use Rattle.vec_names.specs.Params.{IsInRange};
 
-use crate::{Core, Summary};
+use vec_board::{Core, Summary};
 use bit_code::read_bits;
 use page_bytes::{Page, PageKind};
 use page_log::Log;

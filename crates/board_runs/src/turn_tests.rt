@@ -3,8 +3,8 @@
 ghost use Rattle.std.specs.Prelude.{◌≡◌, IfOk, length};
 ghost use Rattle.vec_names.specs.Params.{IsInRange};
 
-use crate::tests::graph;
-use crate::{Core, Summary};
+use crate::core_tests::graph;
+use vec_board::{Core, Summary};
 use page_log::Log;
 use std::alloc::Global;
 use std::test::*;

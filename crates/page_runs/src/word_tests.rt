@@ -3,7 +3,7 @@
 ghost use Rattle.std.specs.Prelude.{◌≡◌, IfOk, length};
 ghost use Rattle.vec_names.specs.Params.{IsInRange};
 
-use crate::{Making, decide, event_of};
+use page_words::{Making, decide, event_of};
 use bit_code::{Bits, read_bits};
 use page_bytes::{Page, PageKind};
 use page_sets::{PageList, PageSet};

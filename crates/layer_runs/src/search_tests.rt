@@ -4,7 +4,7 @@ ghost use Rattle.vec_names.specs.Params.{IsInRange};
 mod links;
 mod lists;
 
-use crate::*;
+use layer_search::{Search, descend, search_layer};
 use arrayvec::ArrayVec;
 use bit_code::{Bits, read_bits};
 use bit_dist::distance;

@@ -5,8 +5,8 @@ ghost use Rattle.loaded_index.specs.Loading.{CanGoOn};
 ghost use Rattle.vec_board.specs.Standing.{acts_of};
 ghost use Rattle.vec_board.specs.Boards.{HoldsAlone};
 
-use crate::tests::{told_of, two_pages};
-use crate::{Board, LoneDesk};
+use crate::core_tests::{told_of, two_pages};
+use vec_board::{Board, LoneDesk};
 use bit_code::read_bits;
 use loaded_index::Loaded;
 use std::alloc::Global;

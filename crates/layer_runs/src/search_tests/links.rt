@@ -4,7 +4,7 @@ ghost use Rattle.layer_search.specs.Listing.{ArePicksLong};
 
 use super::lists::{desk_of, no_reads};
 use super::{first_found, put, tid, value};
-use crate::{FoundLists, link_back};
+use layer_search::{FoundLists, link_back};
 use bit_code::Bits;
 use std::alloc::Global;
 use std::test::*;

@@ -4,7 +4,7 @@ ghost use Rattle.vec_names.specs.Params.{IsInRange};
 ghost use Rattle.vec_names.specs.declared.params.Kind.TheVariants.{Hnsw};
 
 use super::{are, put, tall_nodes, tid, value};
-use crate::{FoundLists, find_lists};
+use layer_search::{FoundLists, find_lists};
 use neighbour_pick::Found;
 use std::alloc::Global;
 use std::test::*;

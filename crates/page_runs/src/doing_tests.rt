@@ -1,6 +1,6 @@
 ghost use Rattle.std.specs.Prelude.{◌≡◌, ◌≤◌, ◌-◌, IfOk, vec_len, vec_capacity};
 
-use crate::{PageList, PageSet, commit};
+use page_sets::{PageList, PageSet, commit};
 use bit_code::read_bits;
 use page_bytes::{Page, PageKind};
 use page_redo::RedoFault;

@@ -3,8 +3,8 @@
 ghost use Rattle.std.specs.Prelude.{◌≡◌, ◌≤◌, IfOk, OnOk, length, vec_len};
 ghost use Rattle.vec_names.specs.Params.{IsInRange};
 
-use crate::tests::{META, core, core_of, graph, number_on, two_pages};
-use crate::{Core, Summary};
+use crate::core_tests::{META, core, core_of, graph, number_on, two_pages};
+use vec_board::{Core, Summary};
 use bit_code::{Bits, read_bits};
 use index_sizes::MOST_BLOCKS;
 use page_bytes::{Page, PageKind};
