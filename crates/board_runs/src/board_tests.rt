@@ -6,11 +6,11 @@ ghost use Rattle.vec_board.specs.Standing.{acts_of};
 ghost use Rattle.vec_board.specs.Boards.{HoldsAlone};
 
 use crate::core_tests::{told_of, two_pages};
-use vec_board::{Board, LoneDesk};
 use bit_code::read_bits;
 use loaded_index::Loaded;
 use std::alloc::Global;
 use std::test::*;
+use vec_board::{Board, LoneDesk};
 use vec_history::{Act, Event, Gate, Hold};
 use vec_names::{HeapId, Listed, Tid};
 use vec_outside::{Area, Disks, MemDisks};

@@ -4,7 +4,6 @@ ghost use Rattle.std.specs.Prelude.{◌≡◌, ◌≤◌, IfOk, OnOk, length, ve
 ghost use Rattle.vec_names.specs.Params.{IsInRange};
 
 use crate::core_tests::{META, core, core_of, graph, number_on, two_pages};
-use vec_board::{Core, Summary};
 use bit_code::{Bits, read_bits};
 use index_sizes::MOST_BLOCKS;
 use page_bytes::{Page, PageKind};
@@ -12,6 +11,7 @@ use page_log::Log;
 use page_sets::PageList;
 use std::alloc::Global;
 use std::test::*;
+use vec_board::{Core, Summary};
 use vec_names::{HeapId, Kind, Listed, Ops, Params, Tid};
 use vec_outside::Area;
 use vec_steps::{Ask, LOG_ROOM, NewNode, StepFault, Told, Word};

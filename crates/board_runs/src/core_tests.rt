@@ -3,7 +3,6 @@
 ghost use Rattle.std.specs.Prelude.{◌≡◌, ◌≤◌, ◌-◌, IfOk, length, vec_len};
 ghost use Rattle.vec_names.specs.Params.{IsInRange};
 
-use vec_board::{Core, Summary};
 use bit_code::read_bits;
 use page_bytes::{Page, PageKind};
 use page_log::Log;
@@ -11,6 +10,7 @@ use page_redo::meta_at;
 use page_sets::PageList;
 use std::alloc::Global;
 use std::test::*;
+use vec_board::{Core, Summary};
 use vec_history::{Event, Gate, Hold, Stage};
 use vec_names::{HeapId, Kind, Listed, Ops, Params, Tid};
 use vec_outside::Area;

@@ -4,10 +4,10 @@ ghost use Rattle.std.specs.Prelude.{◌≡◌, IfOk, length};
 ghost use Rattle.vec_names.specs.Params.{IsInRange};
 
 use crate::core_tests::graph;
-use vec_board::{Core, Summary};
 use page_log::Log;
 use std::alloc::Global;
 use std::test::*;
+use vec_board::{Core, Summary};
 use vec_history::{Event, Gate, Hold, Stage};
 use vec_names::{Kind, Ops, Params};
 use vec_outside::Area;

@@ -4,10 +4,10 @@ ghost use Rattle.vec_names.specs.Params.{IsInRange};
 mod links;
 mod lists;
 
-use layer_search::{Search, descend, search_layer};
 use arrayvec::ArrayVec;
 use bit_code::{Bits, read_bits};
 use bit_dist::distance;
+use layer_search::{Search, descend, search_layer};
 use neighbour_pick::Found;
 use std::alloc::Global;
 use std::test::*;

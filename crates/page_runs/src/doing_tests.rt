@@ -1,9 +1,9 @@
 ghost use Rattle.std.specs.Prelude.{◌≡◌, ◌≤◌, ◌-◌, IfOk, vec_len, vec_capacity};
 
-use page_sets::{PageList, PageSet, commit};
 use bit_code::read_bits;
 use page_bytes::{Page, PageKind};
 use page_redo::RedoFault;
+use page_sets::{PageList, PageSet, commit};
 use std::alloc::Global;
 use std::test::*;
 use vec_history::Event;

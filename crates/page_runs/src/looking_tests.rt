@@ -3,10 +3,10 @@
 ghost use Rattle.std.specs.Prelude.{◌≡◌, IfOk, length};
 ghost use Rattle.vec_names.specs.Params.{IsInRange};
 
-use page_sets::{PageList, PageSet, look, look_meta};
 use bit_code::read_bits;
 use page_bytes::{Page, PageKind};
 use page_redo::RedoFault;
+use page_sets::{PageList, PageSet, look, look_meta};
 use std::alloc::Global;
 use std::test::*;
 use vec_history::Event;

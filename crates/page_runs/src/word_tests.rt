@@ -3,10 +3,10 @@
 ghost use Rattle.std.specs.Prelude.{◌≡◌, IfOk, length};
 ghost use Rattle.vec_names.specs.Params.{IsInRange};
 
-use page_words::{Making, decide, event_of};
 use bit_code::{Bits, read_bits};
 use page_bytes::{Page, PageKind};
 use page_sets::{PageList, PageSet};
+use page_words::{Making, decide, event_of};
 use std::alloc::Global;
 use std::test::*;
 use vec_graph::Place;

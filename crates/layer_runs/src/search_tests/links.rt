@@ -4,8 +4,8 @@ ghost use Rattle.layer_search.specs.Listing.{ArePicksLong};
 
 use super::lists::{desk_of, no_reads};
 use super::{first_found, put, tid, value};
-use layer_search::{FoundLists, link_back};
 use bit_code::Bits;
+use layer_search::{FoundLists, link_back};
 use std::alloc::Global;
 use std::test::*;
 use vec_graph::Node;
