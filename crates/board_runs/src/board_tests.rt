@@ -8,6 +8,7 @@ ghost use Rattle.vec_board.specs.Boards.{HoldsAlone};
 use crate::core_tests::{told_of, two_pages};
 use bit_code::read_bits;
 use loaded_index::Loaded;
+use page_bytes::Page;
 use std::alloc::Global;
 use std::test::*;
 use vec_board::{Board, LoneDesk};
@@ -47,7 +48,7 @@ fn board(alloc: Global, used: u64, fail: Vec<u64>) -> Result<Board<MemDisks>, Fa
         return Err(Fail::new("an area to the log's end"));
     }
     let board = Board::from_loaded(alloc, disks, loaded);
-    if board.core.params.bits != 4 {
+    if board.params().bits != 4 {
         return Err(Fail::new("values of four places"));
     }
     Ok(board)
@@ -93,8 +94,8 @@ fn take(gate: Gate, hold: Hold) -> Ask {
 }
 
 /// The number on the page of a block.
-fn number_on(board: &Board<MemDisks>, block: usize) -> u64 {
-    match board.pages.pages.as_slice().get(block) {
+fn number_on(pages: &[Page], block: usize) -> u64 {
+    match pages.get(block) {
         Some(page) => page.number(),
         None => 0,
     }
@@ -121,7 +122,9 @@ fn a_node_on_a_new_block(rt: HostRuntime) -> Result<(), Fail> {
     let mut told = told_of(alloc)?;
     put_by_7(alloc, &mut board, &mut told)?;
     assert!(rt; told.word == Word::Done && told.at == 1 && told.tid == Some(tid(2, 1)));
-    assert!(rt; number_on(&board, 2) == 5 && number_on(&board, 0) == 0 && board.acts().len() == 2);
+    assert!(rt; board.acts().len() == 2);
+    let (_, pages, _) = board.into_core();
+    assert!(rt; number_on(pages.as_slice(), 2) == 5 && number_on(pages.as_slice(), 0) == 0);
     Ok(())
 }
 
@@ -174,7 +177,9 @@ fn one_byte_too_few(rt: HostRuntime) -> Result<(), Fail> {
     let mut hint = Ask::Hint { block: 2 };
     let refused = board.serve(7, &mut hint, &mut told);
     assert!(rt; refused == Err(StepFault::LogFull { used, size: 5 }) && board.acts().is_empty());
-    assert!(rt; matches!(hint, Ask::Hint { block: 2 }) && number_on(&board, 0) == 0);
+    assert!(rt; matches!(hint, Ask::Hint { block: 2 }));
+    let (_, pages, _) = board.into_core();
+    assert!(rt; number_on(pages.as_slice(), 0) == 0);
     Ok(())
 }
 
