@@ -34,7 +34,7 @@ fn loaded(alloc: Global, used: u64) -> Result<Loaded, Fail>
 }
 
 /// The board of that index, over disks of which the calls with these numbers are to fail.
-fn board(alloc: Global, used: u64, fail: Vec<u64>) -> Result<Board<MemDisks>, Fail>
+pub fn board(alloc: Global, used: u64, fail: Vec<u64>) -> Result<Board<MemDisks>, Fail>
     requires { used ≤ 268435456 }
     ensures bits { IfOk result (λ board. board.core.params.bits ≡ 4) }
     ensures alone { IfOk result (λ board. HoldsAlone (acts_of board.core) 0) }
@@ -55,7 +55,7 @@ fn board(alloc: Global, used: u64, fail: Vec<u64>) -> Result<Board<MemDisks>, Fa
 }
 
 /// What a desk was told, at which position, and whether its ask was spent.
-fn ask(
+pub fn ask(
     board: &mut Board<MemDisks>,
     desk: u32,
     told: &mut Told,
@@ -102,7 +102,7 @@ fn number_on(pages: &[Page], block: usize) -> u64 {
 }
 
 /// Desk 7 puts a node on a new block, which is the act behind its hold.
-fn put_by_7(alloc: Global, board: &mut Board<MemDisks>, told: &mut Told) -> Result<(), Fail>
+pub fn put_by_7(alloc: Global, board: &mut Board<MemDisks>, told: &mut Told) -> Result<(), Fail>
     requires bits { length told.old.bits ≡ 4 }
     requires of_four { board.old.core.params.bits ≡ 4 }
     ensures bits { OnOk result (length told.new.bits ≡ 4) }

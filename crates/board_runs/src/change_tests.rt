@@ -36,7 +36,7 @@ fn one_list() -> Params
 }
 
 /// The page of one list, and an empty one for its rows.
-fn list_pages(alloc: Global) -> Result<PageList, Fail>
+pub fn list_pages(alloc: Global) -> Result<PageList, Fail>
     ensures { IfOk result (λ pages. vec_len pages.pages ≡ 3) }
 {
     let mut pages = Vec::with_capacity(alloc, 4)?;
@@ -49,8 +49,9 @@ fn list_pages(alloc: Global) -> Result<PageList, Fail>
 }
 
 /// The core of an index of one list with three blocks, whose next event has the number 5.
-fn list_core(alloc: Global) -> Core
-    ensures { result.summary.blocks ≡ 3 }
+pub fn list_core(alloc: Global) -> Core
+    ensures blocks { result.summary.blocks ≡ 3 }
+    ensures bits { result.params.bits ≡ 4 }
 {
     let summary = Summary {
         blocks: 3,
@@ -63,7 +64,7 @@ fn list_core(alloc: Global) -> Core
     Core::over(alloc, one_list(), summary, log, 5)
 }
 
-fn tid(block: u32, off: u16) -> Tid {
+pub fn tid(block: u32, off: u16) -> Tid {
     Tid {
         block: block.min(9),
         off: off.max(1),
@@ -78,7 +79,7 @@ fn row(off: u16) -> HeapId {
 }
 
 /// A node of level 0 with four empty slots.
-fn new_node(alloc: Global) -> Result<NewNode, Fail> {
+pub fn new_node(alloc: Global) -> Result<NewNode, Fail> {
     let mut lists = Listed::new(alloc);
     lists.extend_from_slice(&[None, None, None, None])?;
     Ok(NewNode {
@@ -90,7 +91,7 @@ fn new_node(alloc: Global) -> Result<NewNode, Fail> {
 }
 
 /// What desk 7 is told.
-fn told_by(
+pub fn told_by(
     alloc: Global,
     core: &mut Core,
     pages: &mut PageList,
@@ -236,6 +237,61 @@ fn slots_of_a_node(rt: HostRuntime) -> Result<(), Fail> {
     assert!(rt;
         word(alloc, &mut core, &mut pages, relist)? == Word::Done && core.acts().len() == 3
     );
+    Ok(())
+}
+
+/// A change of a node that was read with another version is stale, and makes no act.
+#[test]
+fn each_change_is_stale(rt: HostRuntime) -> Result<(), Fail> {
+    let alloc = rt.alloc();
+    let mut pages = two_pages(alloc)?;
+    let mut core = core(alloc, 0);
+    one_node(alloc, &mut core, &mut pages)?;
+    let gone = Ask::Drop {
+        at: tid(2, 1),
+        version: 2,
+        gone: 1,
+    };
+    assert!(rt; word(alloc, &mut core, &mut pages, gone)? == Word::Stale);
+    let mark = Ask::Mark {
+        at: tid(2, 1),
+        list_at: tid(2, 2),
+        version: 2,
+    };
+    assert!(rt; word(alloc, &mut core, &mut pages, mark)? == Word::Stale);
+    let NewNode { lists, .. } = new_node(alloc)?;
+    let relist = Ask::Relist {
+        at: tid(2, 1),
+        list_at: tid(2, 2),
+        version: 2,
+        lists,
+    };
+    assert!(rt;
+        word(alloc, &mut core, &mut pages, relist)? == Word::Stale && core.acts().len() == 1
+    );
+    Ok(())
+}
+
+/// A node takes nine rows beside its first, and no eleventh.
+#[test]
+fn the_eleventh_row_joins_no_node(rt: HostRuntime) -> Result<(), Fail> {
+    let alloc = rt.alloc();
+    let mut pages = two_pages(alloc)?;
+    let mut core = core(alloc, 0);
+    one_node(alloc, &mut core, &mut pages)?;
+    let mut told = Told::make(alloc, graph())?;
+    for _ in 0..9u8 {
+        if core.summary().blocks as usize != pages.pages.len() {
+            return Err(Fail::new("a page for each block"));
+        }
+        core.change(7, &mut join(1), &mut told, &mut pages)?;
+    }
+    assert!(rt; told.word == Word::Done && core.acts().len() == 10);
+    if core.summary().blocks as usize != pages.pages.len() {
+        return Err(Fail::new("a page for each block"));
+    }
+    core.change(7, &mut join(1), &mut told, &mut pages)?;
+    assert!(rt; told.word == Word::NotJoined && core.acts().len() == 10);
     Ok(())
 }
 

@@ -8,4 +8,8 @@ mod change_tests;
 #[cfg(test)]
 mod core_tests;
 #[cfg(test)]
+mod look_tests;
+#[cfg(test)]
+mod replay_tests;
+#[cfg(test)]
 mod turn_tests;
