@@ -1,5 +1,6 @@
 pub mod Sums
 pub mod Looked
 pub mod Chain
-pub mod UpdateAlone
+pub mod NoGate
 pub mod Replied
+pub mod Batches
