@@ -1,5 +1,5 @@
 -- Areas that are durable: what a crash leaves is what a read gives.
-use Rattle.std.proofs.Common.{◌≡◌, ℕ, ◌<◌, ◌≤◌, length, Option, Some, None, Result, Ok, Err, OnOk, IfOk, IfSome, sym, ap, subst, ◌∙◌}
+use Rattle.std.proofs.Common.{◌≡◌, ◌≤◌, Option, Some, None, Result, Ok, Err, OnOk, IfOk, IfSome, sym, subst, ◌∙◌}
 use Rattle.std.proofs.Math.Path.{fun_ext}
 use Rattle.vec_outside.specs.Disk.{Disk, Image, IsDurable, IsImage, IsKept}
 use Rattle.vec_outside.specs.declared.disks.Area.{Area}
@@ -48,7 +48,7 @@ module _ (old mid new : Disk) (first : IsKept old mid) (then : IsKept mid new) (
       let reads = subst (λ (i : Image). ReadsAs i (Ok (Some epoch))) (sym same) is.begins.reads in
       let past = subst (λ (i : Image). HasSealBehind i epoch) (sym same) behind in
       let stands = read_stands new epoch (still epoch.area) (still (other_log epoch.area)) past.other reads is.whole past.behind
-          (subst (λ n. n ≤ 268435456) tells.used goes.used) in
+      (subst (λ n. n ≤ 268435456) tells.used goes.used) in
       rw (tells.area, tells.end, tells.used) stands
 
   pub told_of_all : (r : Result (Option ReadIndex) OpenFault) → IsOpening mid.seen r → OnOk r ((image : Image) → IsImage new image → IsOpening image r)

@@ -56,10 +56,7 @@ fn sync_all<D: Disks>(disks: &mut D) -> Result<(), OpenFault>
 ///
 /// `NotIndex`, `BadEvent` and `Disk` are as those of `read_index`; the disks' count of faults rises also where an area can't be made
 /// durable.
-pub fn read_durable<D: Disks>(
-    alloc: Global,
-    disks: &mut D,
-) -> Result<Option<ReadIndex>, OpenFault>
+pub fn read_durable<D: Disks>(alloc: Global, disks: &mut D) -> Result<Option<ReadIndex>, OpenFault>
     ensures recovers { D.told → IsOpening (D.disk disks.old).seen result }
     ensures crash { D.told → OnOk result ((image : Image) → IsImage (D.disk disks.new) image → IsOpening image result) }
     ensures standing { D.told → IfOk result (λ read. IfSome read (λ r. (recovery : Recovery) → Tells r recovery
