@@ -1,9 +1,8 @@
 -- As many commands as lines that are not skipped.
-use Rattle.std.proofs.Common.{◌≡◌, ℕ, ◌+◌, ◌==◌, Bool, true, false, cond, List, [], ◌∷◌, length, Option, Some, None, refl, sym, ap, ◌∙◌, eq-eqb, arith}
+use Rattle.std.proofs.Common.{◌≡◌, ℕ, ◌+◌, true, false, cond, List, [], ◌∷◌, length, Option, Some, None, refl, sym, ap, ◌∙◌, eq-eqb, arith}
 use Rattle.std.specs.List.{AllZip}
 use Rattle.std.proofs.lemmas.Bool.{eqb-true}
-use Rattle.script_words.specs.Lines.{lines_of, words_of}
-use Rattle.script_words.specs.Commands.{HasWords}
+use Rattle.script_words.specs.Lines.{lines_of}
 use Rattle.script_words.specs.Grammar.{IsLine, IsScript, IsSkipped, command_lines, commands_of, is_skipped}
 use Rattle.script_words.specs.declared.command.Command.{Command}
 use Rattle.script_words.specs.declared.form.Form.{Form}
