@@ -2,4 +2,5 @@ mod AnswerSteps
 mod Ending
 mod Moving
 mod OneWord
+mod Running
 mod Sources
