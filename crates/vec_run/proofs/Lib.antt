@@ -1,5 +1,6 @@
 mod AnswerSteps
 mod Ending
+mod Joined
 mod Moving
 mod OneWord
 mod Running

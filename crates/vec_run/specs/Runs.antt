@@ -14,6 +14,8 @@ use Rattle.script_jobs.specs.Jobs.{AreDone, Fails, IsDone, text_of}
 use Rattle.vec_run.specs.declared.audit.Audit.{Audit}
 use Rattle.vec_run.specs.declared.audit.Room.{Room}
 use Rattle.vec_run.specs.declared.audit.Room.TheVariants.{Blocks, Log}
+use Rattle.vec_run.specs.declared.commands.Made.{Made}
+use Rattle.vec_run.specs.declared.commands.Ran.{Ran}
 use Rattle.vec_run.specs.declared.done.Done.{Done}
 use Rattle.vec_run.specs.declared.indexed.Stop.{Stop}
 use Rattle.vec_run.specs.declared.indexed.Stop.TheVariants as stop
@@ -97,26 +99,52 @@ pub record IsIdle (a : Audit) : Type 0 where
   pub jobs : a.jobs.items ≡ []
   pub epochs : a.epochs.items ≡ []
 
--- All commands were run, and what is told of them is so: acts that are legal over the index that was made.
-pub record RunsScript (lines : List ℕ) (commands : List Command) (replies : List Reply) (a : Audit) : Type 0 where
+-- All commands were run, with these replies: these jobs were done, and these acts came, which are legal over the index that was made.
+pub record RunsScript (lines : List ℕ) (commands : List Command) (replies : List Reply) (jobs : List Job) (created : Option ℕ)
+    (acts : List Act) : Type 0 where
   pub made : Option Params
-  pub run : AreRun lines commands replies a.jobs.items a.created made a.acts.items
-  pub legal : AreLegal made a.acts.items
-  pub epochs : a.epochs.items ≡ []
+  pub run : AreRun lines commands replies jobs created made acts
+  pub legal : AreLegal made acts
 
--- over the index that was made
+-- the next command wanted this room of the index that was made
 abbrev pub IsNext : Option Params → List Act → List Act → List Command → ℕ → Room → Type 0
 IsNext None old new commands count room = ⊥
 IsNext (Some p) old new commands count room = WantsNext (IsNew p) (lone p) old new commands count room
 
--- So many of the commands were run, one after the other, and the next one was not completed, of which acts may have come.
-pub record RunsFront (lines : List ℕ) (commands : List Command) (replies : List Reply) (a : Audit) (why : Stop) : Type 0 where
+-- So many of the commands were run, with these replies, and the next one was not completed, of which acts may have come.
+pub record RunsFront (lines : List ℕ) (commands : List Command) (replies : List Reply) (jobs : List Job) (created : Option ℕ)
+    (acts : List Act) (why : Stop) : Type 0 where
   pub count : ℕ
   pub made : Option Params
   pub mid : List Act
-  pub run : AreRun (take count lines) (take count commands) replies a.jobs.items a.created made mid
+  pub run : AreRun (take count lines) (take count commands) replies jobs created made mid
   pub more : List Act
-  pub all : a.acts.items ≡ mid ++ more
-  pub legal : AreLegal made a.acts.items
-  pub epochs : a.epochs.items ≡ []
-  pub why_is : IsWhy (IsNext made mid a.acts.items commands count) why
+  pub all : acts ≡ mid ++ more
+  pub legal : AreLegal made acts
+  pub why_is : IsWhy (IsNext made mid acts commands count) why
+
+-- a create and the commands behind it were completed, and this is the text of all that were
+pub record MakesAll (lines : List ℕ) (commands : List Command) (m : Made) (d : Done) : Type 0 where
+  pub replies : List Reply
+  pub runs : RunsScript lines commands replies d.jobs.items m.created m.acts.items
+  pub text_is : d.text.items ≡ text_of replies
+
+-- some were
+pub record MakesSome (lines : List ℕ) (commands : List Command) (m : Made) (d : Done) (why : Stop) : Type 0 where
+  pub replies : List Reply
+  pub runs : RunsFront lines commands replies d.jobs.items m.created m.acts.items why
+  pub text_is : d.text.items ≡ text_of replies
+
+-- a run completed all commands
+pub record RunsTo (lines : List ℕ) (commands : List Command) (r : Ran) : Type 0 where
+  pub replies : List Reply
+  pub runs : RunsScript lines commands replies r.audit.jobs.items r.audit.created r.audit.acts.items
+  pub epochs : r.audit.epochs.items ≡ []
+  pub text_is : r.text.items ≡ text_of replies
+
+-- it completed some
+pub record StopsTo (lines : List ℕ) (commands : List Command) (r : Ran) (why : Stop) : Type 0 where
+  pub replies : List Reply
+  pub runs : RunsFront lines commands replies r.audit.jobs.items r.audit.created r.audit.acts.items why
+  pub epochs : r.audit.epochs.items ≡ []
+  pub text_is : r.text.items ≡ text_of replies

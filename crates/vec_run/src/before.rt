@@ -1,5 +1,7 @@
 // The commands of a script while no index stands.
 ghost use Rattle.std.specs.Prelude.{ℕ, ◌≡◌, ◌<◌, ◌∷◌, [], All, length, slice_get, Some, IfOk, IfSome, OnErr, MatchOption};
+ghost use Rattle.vec_names.specs.Params.{IsInRange};
+ghost use Rattle.vec_names.specs.declared.params.Kind.TheVariants.{Hnsw};
 ghost use Rattle.script_words.specs.declared.command.Command.{Command as AnyCommand};
 ghost use Rattle.script_jobs.specs.Jobs.{CanBeDone, IsJob};
 ghost use Rattle.vec_run.specs.Alone.{IsFirst, IsMaking};
@@ -74,6 +76,7 @@ pub fn answer_first(
         (λ f. AnswersTo lines.now commands.now f.0 done.new)) }
     ensures makes { IfOk result (λ found. IfSome found (λ f. (f.0 < length commands.now) × ((c : AnyCommand)
         → slice_get commands.now f.0 ≡ Some c → IsMaking c f.1))) }
+    ensures range { IfOk result (λ found. IfSome found (λ f. IsInRange f.1 × (f.1.kind ≡ Hnsw))) }
     ensures err { OnErr result ((count : ℕ) × AnswersTo lines.now commands.now count done.new) }
 {
     for i in 0..commands.len() {

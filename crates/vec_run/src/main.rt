@@ -3,6 +3,7 @@
 
 mod audit;
 mod before;
+mod commands;
 mod creating;
 mod done;
 mod end;
