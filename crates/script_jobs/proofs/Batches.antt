@@ -40,7 +40,7 @@ over_nothing {stands = stands} acts p is (OfLists g) of stood = absurd (nodes_of
 
 -- what was done over more bases
 module _ {more fewer : Index → Type 0} (on : (base : Index) → fewer base → more base) where
-  gated_over : {d : Desk} {old new : List Act} {before now : List ℕ} {reads : List (Look × Answer)} → MadeGated more d old new before now reads
+  pub gated_over : {d : Desk} {old new : List Act} {before now : List ℕ} {reads : List (Look × Answer)} → MadeGated more d old new before now reads
       → MadeGated fewer d old new before now reads
   gated_over m = record {
     taken = m.taken;
@@ -50,7 +50,7 @@ module _ {more fewer : Index → Type 0} (on : (base : Index) → fewer base →
     gives = gives_over on m.gives;
   }
 
-  end_over : {d : Desk} {old new : List Act} {fault : OpFault} → GatedEnd more d old new fault → GatedEnd fewer d old new fault
+  pub end_over : {d : Desk} {old new : List Act} {fault : OpFault} → GatedEnd more d old new fault → GatedEnd fewer d old new fault
   end_over (GatedEnd.not_taken f) = GatedEnd.not_taken (failed_over on f)
   end_over (GatedEnd.given_back taken seen t b g) = GatedEnd.given_back taken seen (takes_over on t) (ended_over on b) (gives_over on g)
   end_over (GatedEnd.not_given_back taken seen t m f memory) =
@@ -58,7 +58,7 @@ module _ {more fewer : Index → Type 0} (on : (base : Index) → fewer base →
   end_over (GatedEnd.failed_twice taken seen first t b f memory) =
       GatedEnd.failed_twice taken seen first (takes_over on t) (ended_over on b) (failed_over on f) memory
 
-  freed_over : (d : Desk) {new : List Act} {fault : OpFault} → IsFreed more d new fault → IsFreed fewer d new fault
+  pub freed_over : (d : Desk) {new : List Act} {fault : OpFault} → IsFreed more d new fault → IsFreed fewer d new fault
   freed_over d f base o disk = f base (on base o) disk
 
 -- ---- batch after batch

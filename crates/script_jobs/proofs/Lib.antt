@@ -2,5 +2,7 @@ pub mod Sums
 pub mod Looked
 pub mod Chain
 pub mod NoGate
-pub mod Replied
 pub mod Batches
+pub mod Over
+pub mod Going
+pub mod Replied

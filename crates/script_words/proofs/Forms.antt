@@ -7,7 +7,7 @@ use Rattle.std.proofs.lemmas.Bool.{cases_lt}
 use Rattle.std.specs.declared.alloc.Global.{Global}
 use Rattle.script_words.specs.declared.command.Command.{Command}
 use Rattle.script_words.specs.declared.form.Form.{Form}
-use Rattle.script_words.specs.declared.form.Form.TheVariants.{Exact, Alone}
+use Rattle.script_words.specs.declared.form.Form.TheVariants.{Exact, Alone, Rowless}
 use Rattle.script_words.specs.declared.fault.ScriptFault.{ScriptFault}
 use Rattle.script_words.specs.declared.fault.ScriptFault.TheVariants as fault
 use Rattle.script_words.specs.Faults.{IsAtLine, IsFormFault, IsScriptFault}
@@ -90,15 +90,18 @@ module _ (form : Form) where
   lengths_more Exact [] m all fits = tt
   lengths_more Exact (n ∷ ns) m all fits = all_more n ns m all fits
   lengths_more Alone ns m all fits = tt
+  lengths_more Rowless ns m all fits = tt
 
   lengths_last : (f : Form) (ns : List ℕ) (m : ℕ) → AreLengthsOf f (ns ++ m ∷ []) → FitsAfter f ns m
   lengths_last Exact [] m all = tt
   lengths_last Exact (n ∷ ns) m all = all_last n ns m all
   lengths_last Alone ns m all = tt
+  lengths_last Rowless ns m all = tt
 
   lengths_none : (f : Form) → AreLengthsOf f []
   lengths_none Exact = tt
   lengths_none Alone = tt
+  lengths_none Rowless = tt
 
   long_more : (texts : List (List ℕ)) (text : List ℕ) → length (texts ++ text ∷ []) ≡ length texts + 1
   long_more texts text = length-append texts (text ∷ [])
@@ -264,6 +267,7 @@ module _ (form : Form) where
   lengths_front Exact [] vs all = tt
   lengths_front Exact (u ∷ us) vs all = all_front u us vs all
   lengths_front Alone us vs all = tt
+  lengths_front Rowless us vs all = tt
 
   zip_front : (n : ℕ) (texts : List (List ℕ)) (lines : List (Option Command)) → AllZip (IsLine form) texts lines → AllZip (IsLine form) (take n texts) (take n lines)
   zip_front zero texts lines each = tt

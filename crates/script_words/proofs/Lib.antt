@@ -8,3 +8,4 @@ pub mod Outside
 pub mod OneCommand
 pub mod Forms
 pub mod HitLines
+pub mod AsMany

@@ -9,7 +9,7 @@ use Rattle.script_words.specs.declared.command.Command.TheVariants.{Row, Query, 
 use Rattle.script_words.specs.declared.command.Further.{Further}
 use Rattle.script_words.specs.declared.command.Further.TheVariants.{Relaxed, Strict}
 use Rattle.script_words.specs.declared.form.Form.{Form}
-use Rattle.script_words.specs.declared.form.Form.TheVariants.{Exact, Alone}
+use Rattle.script_words.specs.declared.form.Form.TheVariants.{Exact, Alone, Rowless}
 
 -- ID: B/O, in decimal
 abbrev pub id_word : HeapId → List ℕ
@@ -115,7 +115,7 @@ HasRest rest Stats = rest ≡ []
 abbrev pub HasWords : List (List ℕ) → Command → Type 0
 HasWords words command = (rest : List (List ℕ)) × (words ≡ verb_of command ∷ rest) × HasRest rest command
 
--- The form has this command. In `exact` a row has no word of its own.
+-- The form has this command. In `Exact` a row has no word of its own. `Rowless` has those of `Alone` that are done today.
 abbrev pub IsOf : Form → Command → Type 0
 IsOf Exact (Row id bits None) = Unit {0}
 IsOf Exact (Row id bits (Some word)) = ⊥
@@ -132,3 +132,10 @@ IsOf Alone (Create ops bits m ef round) = Unit {0}
 IsOf Alone (Insert id bits word) = Unit {0}
 IsOf Alone (Search bits limit ef further) = Unit {0}
 IsOf Alone Stats = Unit {0}
+IsOf Rowless (Row id bits word) = ⊥
+IsOf Rowless (Query bits) = ⊥
+IsOf Rowless (Draw seed) = Unit {0}
+IsOf Rowless (Create ops bits m ef round) = Unit {0}
+IsOf Rowless (Insert id bits word) = Unit {0}
+IsOf Rowless (Search bits limit ef further) = ⊥
+IsOf Rowless Stats = Unit {0}

@@ -1,12 +1,12 @@
 -- The script: which texts are lines of a form, and where a text first leaves it.
-use Rattle.std.specs.Prelude.{ℕ, ◌≡◌, ◌⊎◌, ◌+◌, ◌-◌, ◌^◌, ◌<◌, ◌≤◌, Option, Some, None, List, [], ◌∷◌, length, take}
+use Rattle.std.specs.Prelude.{ℕ, ◌≡◌, ◌⊎◌, ◌+◌, ◌-◌, ◌^◌, ◌<◌, ◌≤◌, ◌==◌, if◌then◌else◌, Bool, true, Option, Some, None, List, [], ◌∷◌, length, take}
 use Rattle.std.specs.List.{AllZip, filter_map}
 use Rattle.script_words.specs.Lines.{lines_of, words_of, closed_part}
 use Rattle.script_words.specs.Commands.{HasWords, IsOf}
 use Rattle.script_words.specs.declared.command.Command.{Command}
 use Rattle.script_words.specs.declared.command.Command.TheVariants.{Row, Query, Draw, Create, Insert, Search, Stats}
 use Rattle.script_words.specs.declared.form.Form.{Form}
-use Rattle.script_words.specs.declared.form.Form.TheVariants.{Exact, Alone}
+use Rattle.script_words.specs.declared.form.Form.TheVariants.{Exact, Alone, Rowless}
 
 -- a line that is skipped: an empty one, or one that begins with `#`
 abbrev pub IsSkipped : List ℕ → Type 0
@@ -51,6 +51,7 @@ AreEqual (n ∷ ns) = AllAre n ns
 abbrev pub AreLengthsOf : Form → List ℕ → Type 0
 AreLengthsOf Exact lengths = AreEqual lengths
 AreLengthsOf Alone lengths = Unit {0}
+AreLengthsOf Rowless lengths = Unit {0}
 
 -- texts that are lines of the form
 pub record IsForm (form : Form) (texts : List (List ℕ)) (lines : List (Option Command)) : Type 0 where
@@ -81,6 +82,18 @@ abbrev pub IsFirstOutside : Form → List ℕ → ℕ → Type 0
 IsFirstOutside form bytes k = ((length bytes ≤ 2 ^ 28) × BreaksAt form (lines_of bytes) k)
     ⊎ ((2 ^ 28 < length bytes) × BreaksBy form (lines_of (closed_part (take (2 ^ 28) bytes))) k)
 
+-- ---- the numbers of lines
+
+abbrev pub is_skipped : List ℕ → Bool
+is_skipped [] = true
+is_skipped (byte ∷ bytes) = byte == 35
+
+-- the numbers of the lines that have a command, where the first of these texts is line `next`
+abbrev pub command_lines : ℕ → List (List ℕ) → List ℕ
+command_lines next [] = []
+command_lines next (text ∷ texts) =
+    if is_skipped text then command_lines (next + 1) texts else next ∷ command_lines (next + 1) texts
+
 -- ---- while a script is read
 
 -- these texts are of the form, and give these commands; the line behind them has this number, from 1
@@ -95,3 +108,4 @@ abbrev pub FitsAfter : Form → List ℕ → ℕ → Type 0
 FitsAfter Exact [] m = Unit {0}
 FitsAfter Exact (n ∷ ns) m = m ≡ n
 FitsAfter Alone ns m = Unit {0}
+FitsAfter Rowless ns m = Unit {0}

@@ -12,6 +12,8 @@ pub enum Form {
     Exact,
     /// The commands of one index, without queries.
     Alone,
+    /// Those of `Alone` that the program does today: no rows, of which an index would be built, and no searches.
+    Rowless,
 }
 
 /// Whether a form has this command.
@@ -26,6 +28,10 @@ pub fn is_of(form: Form, command: &Command) -> bool
         },
         Form::Alone => match command {
             Command::Query { .. } => false,
+            _ => true,
+        },
+        Form::Rowless => match command {
+            Command::Row { .. } | Command::Query { .. } | Command::Search { .. } => false,
             _ => true,
         },
     }

@@ -97,12 +97,12 @@ fn fits(form: Form, commands: &[Command], command: &Command) -> bool
             Some(first) => first.places() == command.places(),
             None => true,
         },
-        Form::Alone => true,
+        Form::Alone | Form::Rowless => true,
     }
 }
 
-// The first line, without its line feed, and what stands behind it.
-fn first_line(text: &[u8]) -> (&[u8], &[u8])
+/// The first line, without its line feed, and what stands behind it.
+pub fn first_line(text: &[u8]) -> (&[u8], &[u8])
     requires { 0 < length text.now }
     ensures lines { lines_of text.now ≡ result.0.now ∷ lines_of result.1.now }
     ensures shorter { length result.1.now < length text.now }

@@ -1,6 +1,6 @@
 use crate::{
-    Command, Counts, Form, Further, MOST_BYTES, Refusal, Reply, ScriptFault, apart, one_reading,
-    one_refusal, read_script, write_reply,
+    Command, Counts, Form, Further, MOST_BYTES, Refusal, Reply, ScriptFault, apart, command_lines,
+    numbered, one_reading, one_refusal, read_script, write_reply,
 };
 use bit_dist::Dist;
 use std::alloc::Global;
@@ -325,5 +325,20 @@ fn hits_of_both_distances(rt: HostRuntime) -> Result<(), Fail> {
         .as_slice(),
         b"hits 0\n".as_slice()
     );
+    Ok(())
+}
+
+// Lines that are skipped are counted, and have no command. Rows and searches are not run yet.
+#[test]
+fn numbers_of_lines(rt: HostRuntime) -> Result<(), Fail> {
+    numbered();
+    let text = b"# index\n\ncreate hnsw hamming 4\ninsert 1/1 0000\n\nstats";
+    let numbers = command_lines(rt.alloc(), text)?;
+    assert_eq!(rt; numbers.as_slice(), [3, 4, 6].as_slice());
+    let commands = read_script(rt.alloc(), text, Form::Rowless)?;
+    assert_eq!(rt; commands.len(), 3);
+    for line in [b"row 1/1 0".as_slice(), b"query 0", b"search 0 limit 1"] {
+        assert_eq!(rt; refused(rt.alloc(), Form::Rowless, line)?, 1);
+    }
     Ok(())
 }

@@ -1,5 +1,7 @@
 mod AnswerSteps
 mod Ending
+mod Joined
 mod Moving
 mod OneWord
+mod Running
 mod Sources

@@ -1,8 +1,15 @@
 //! A near-neighbour index over bit strings: reads a command script and writes its replies.
 #![tactic(auto)]
 
+mod audit;
+mod before;
+mod commands;
+mod creating;
+mod done;
 mod end;
 mod exact;
+mod indexed;
+mod lone;
 mod refusal;
 mod replies;
 mod streams;
