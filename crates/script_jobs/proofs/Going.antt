@@ -51,7 +51,7 @@ module _ {over : Index → Type 0} {d : Desk} where
     searched_goes : {new : List Act} {now : Standing} {hits : List Hit} {end : Bool} {reads : List ℕ}
         → Searched over d old w limit new now hits end reads → GoesOn old new
     searched_goes (Searched.begun new now rows end reads b) = gated_goes b.made
-    searched_goes (Searched.further mid new stood now had was before rows end reads s unfinished b) =
+    searched_goes (Searched.continued mid new stood now had was before rows end reads s unfinished b) =
         then_on old mid new (searched_goes s) (gated_goes b.made)
 
     search_ends : {new : List Act} {f : OpFault} → SearchEnds over d old new w limit f → GoesOn old new

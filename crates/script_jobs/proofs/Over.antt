@@ -34,15 +34,15 @@ module _ {more fewer : Index → Type 0} (on : (base : Index) → fewer base →
       → Searched more d old w limit new now hits end reads → Searched fewer d old w limit new now hits end reads
   searched_over (Searched.begun new now rows end reads b) =
       Searched.begun new now rows end reads (record { looks = b.looks; batch = b.batch; made = gated_over on b.made })
-  searched_over (Searched.further mid new stood now had was before rows end reads s unfinished b) =
-      Searched.further mid new stood now had was before rows end reads (searched_over s) unfinished
+  searched_over (Searched.continued mid new stood now had was before rows end reads s unfinished b) =
+      Searched.continued mid new stood now had was before rows end reads (searched_over s) unfinished
       (record { looks = b.looks; batch = b.batch; made = gated_over on b.made })
 
   ends_over : {new : List Act} {f : OpFault} → SearchEnds more d old new w limit f → SearchEnds fewer d old new w limit f
   ends_over (SearchEnds.unmade is same) = SearchEnds.unmade is same
-  ends_over (SearchEnds.in_first g f) = SearchEnds.in_first (end_over on g) (freed_over on f)
+  ends_over (SearchEnds.in_first g f) = SearchEnds.in_first (end_over on g) (freed_over on d f)
   ends_over (SearchEnds.in_next mid standing hits end reads s unfinished g f) =
-      SearchEnds.in_next mid standing hits end reads (searched_over s) unfinished (end_over on g) (freed_over on f)
+      SearchEnds.in_next mid standing hits end reads (searched_over s) unfinished (end_over on g) (freed_over on d f)
   ends_over (SearchEnds.untold standing hits end reads s is) = SearchEnds.untold standing hits end reads (searched_over s) is
 
 -- ---- commands
