@@ -26,7 +26,6 @@ use Rattle.script_words.specs.declared.command.Command.TheVariants.{Search}
 use Rattle.script_words.specs.declared.command.Further.{Further}
 use Rattle.hnsw_scan.specs.Answering.{mode_of}
 use Rattle.script_jobs.specs.declared.planning.Plan.{Plan}
-use Rattle.script_jobs.specs.declared.planning.TheConstants.{USUAL_EF}
 use Rattle.script_jobs.specs.Searching.{IsPlanned, SearchEnds, Searched, hit_of, is_finished, mode_for, number_or, wanted_by, wanted_for}
 use Rattle.script_jobs.specs.Jobs.{Fails, IsNoLength}
 
@@ -195,8 +194,8 @@ pub planned : (bits : List Bool) (ef : Option ℕ) (on : Option Further) (plan :
     → wanted_by plan bits ≡ wanted_for bits ef on
 planned bits ef on plan is =
     ap (λ (n : ℕ). record { query = bits; ef = n; mode = mode_of plan.mode; max = plan.max }) is.1
-    ∙ ap (λ (m : Mode). record { query = bits; ef = number_or USUAL_EF ef; mode = m; max = plan.max }) is.2
-    ∙ ap (λ (n : ℕ). record { query = bits; ef = number_or USUAL_EF ef; mode = mode_for on; max = n }) is.3
+    ∙ ap (λ (m : Mode). record { query = bits; ef = number_or 40 ef; mode = m; max = plan.max }) is.2
+    ∙ ap (λ (n : ℕ). record { query = bits; ef = number_or 40 ef; mode = mode_for on; max = n }) is.3
 
 -- how a search by the numbers of a plan fails
 pub search_fails : {over : Index → Type 0} {d : Desk} {old new : List Act} (bits : List Bool) (limit : ℕ) (ef : Option ℕ) (on : Option Further)

@@ -17,7 +17,6 @@ use Rattle.hnsw_scan.specs.Answering.{mode_of}
 use Rattle.hnsw_scan.specs.Gated.{GatedEnd, IsFreed, MadeGated}
 use Rattle.hnsw_scan.specs.Scanning.{Wanted}
 use Rattle.script_jobs.specs.declared.planning.Plan.{Plan}
-use Rattle.script_jobs.specs.declared.planning.TheConstants.{MOST_EF, MOST_MAX, USUAL_EF, USUAL_MAX}
 
 -- ---- what is asked of the scan
 
@@ -34,12 +33,12 @@ mode_for (Some (further.Strict most)) = Strict
 
 -- up to how many known elements it goes on
 abbrev pub max_for : Option Further → ℕ
-max_for None = USUAL_MAX
-max_for (Some (further.Relaxed most)) = number_or USUAL_MAX most
-max_for (Some (further.Strict most)) = number_or USUAL_MAX most
+max_for None = 20000
+max_for (Some (further.Relaxed most)) = number_or 20000 most
+max_for (Some (further.Strict most)) = number_or 20000 most
 
 abbrev pub wanted_for : List Bool → Option ℕ → Option Further → Wanted
-wanted_for bits ef on = record { query = bits; ef = number_or USUAL_EF ef; mode = mode_for on; max = max_for on }
+wanted_for bits ef on = record { query = bits; ef = number_or 40 ef; mode = mode_for on; max = max_for on }
 
 -- what a scan is made for by these numbers
 abbrev pub wanted_by : Plan → List Bool → Wanted
@@ -47,16 +46,16 @@ wanted_by plan bits = record { query = bits; ef = plan.ef; mode = mode_of plan.m
 
 -- the numbers of a search are in their ranges
 pub record AreInRange (ef : Option ℕ) (on : Option Further) : Type 0 where
-  pub ef_from : 1 ≤ number_or USUAL_EF ef
-  pub ef_to : number_or USUAL_EF ef ≤ MOST_EF
+  pub ef_from : 1 ≤ number_or 40 ef
+  pub ef_to : number_or 40 ef ≤ 1000
   pub max_from : 1 ≤ max_for on
-  pub max_to : max_for on ≤ MOST_MAX
+  pub max_to : max_for on ≤ 2147483647
 
 -- these numbers, where they are in range
 abbrev pub IsPlanned : Option ℕ → Option Further → Option Plan → Type 0
 IsPlanned ef on None = AreInRange ef on → ⊥
 IsPlanned ef on (Some plan) =
-    AreInRange ef on × (plan.ef ≡ number_or USUAL_EF ef) × (mode_of plan.mode ≡ mode_for on) × (plan.max ≡ max_for on)
+    AreInRange ef on × (plan.ef ≡ number_or 40 ef) × (mode_of plan.mode ≡ mode_for on) × (plan.max ≡ max_for on)
 
 -- ---- batches
 
