@@ -1,5 +1,5 @@
 -- The commands before a create, the create, and those behind it.
-use Rattle.std.proofs.Common.{◌≡◌, ℕ, ◌+◌, ◌<◌, ◌≤◌, List, [], ◌∷◌, ◌++◌, take, drop, length, get_or, slice_get, zero, suc, IfErr, Option, None, Some, Result, Ok, Err, inl, inr, refl, sym, ap, subst, ◌∙◌, append-nil, append_assoc, length-append, arith}
+use Rattle.std.proofs.Common.{◌≡◌, ℕ, ◌+◌, ◌<◌, ◌≤◌, List, [], ◌∷◌, ◌++◌, take, drop, length, get_or, slice_get, zero, suc, IfErr, OnOk, Option, None, Some, Result, Ok, Err, inl, inr, refl, sym, ap, subst, ◌∙◌, append-nil, append_assoc, length-append, arith}
 use Rattle.std.proofs.Math.Seq.{take-add}
 use Rattle.std.proofs.lemmas.List.{take_more, take_all, drop_more, get_or-drop, length-drop}
 use Rattle.std.proofs.lemmas.Option.{get_or_from_slice_get, slice_get-get_or, slice_get_within}
@@ -19,11 +19,12 @@ use Rattle.script_jobs.specs.declared.job.Job.{Job}
 use Rattle.script_jobs.specs.Jobs.{AreDone, IsJob, text_of}
 use Rattle.vec_run.specs.declared.audit.Room.{Room}
 use Rattle.vec_run.specs.declared.commands.Made.{Made}
+use Rattle.vec_run.specs.declared.commands.Ran.{Ran}
 use Rattle.vec_run.specs.declared.done.Done.{Done}
 use Rattle.vec_run.specs.declared.indexed.Stop.{Stop}
 use Rattle.vec_run.specs.declared.indexed.Stop.TheVariants as stop
 use Rattle.vec_run.specs.Alone.{AreAnswered, AreRun, IsMaking, IsNew, lone}
-use Rattle.vec_run.specs.Runs.{AnswersTo, IsNext, IsWhy, MakesSome, RunsAll, RunsFront, RunsScript, StopsIn, WantsNext}
+use Rattle.vec_run.specs.Runs.{AnswersTo, IsNext, IsWhy, MakesSome, RunsAll, RunsFront, RunsScript, RunsTo, StopsIn, StopsTo, WantsNext}
 
 -- ---- lists that are cut
 
@@ -208,3 +209,43 @@ in_range (Draw seed) p is = absurd is
 in_range (Insert id bits word) p is = absurd is
 in_range (Search bits limit ef further) p is = absurd is
 in_range Stats p is = absurd is
+
+-- ---- what a run came to
+
+any_ok : {T E Q : Type 0} (r : Result T E) → Q → OnOk r Q
+any_ok (Ok v) q = q
+any_ok (Err e) q = tt
+
+module _ (lines : List ℕ) (commands : List Command) (r : Ran) (d : Done) (text : r.text ≡ d.text) (jobs : r.audit.jobs ≡ d.jobs)
+    (created : r.audit.created ≡ None) (acts : r.audit.acts.items ≡ []) (epochs : r.audit.epochs.items ≡ []) where
+  jobs_are : r.audit.jobs.items ≡ d.jobs.items
+  jobs_are = ap (λ v. v.items) jobs
+
+  text_so : (count : ℕ) (so : AnswersTo lines commands count d) → r.text.items ≡ text_of so.replies
+  text_so count so = ap (λ v. v.items) text ∙ so.text_is
+
+  -- all were answered, and no index was made
+  pub ran_answered : length lines ≡ length commands → AnswersTo lines commands (length commands) d → OnOk r.ended (RunsTo lines commands r)
+  ran_answered long so =
+      let none : AreAnswered lines commands so.replies d.jobs.items =
+      subst (λ (l : List ℕ). AreAnswered l commands so.replies d.jobs.items) (take_all (length commands) lines (omega (arith, long)))
+      (subst (λ (l : List Command). AreAnswered (take (length commands) lines) l so.replies d.jobs.items) (take_all (length commands) commands (omega arith))
+      so.answered) in
+      any_ok r.ended (record {
+        replies = so.replies;
+        runs = all_answered lines commands so.replies r.audit.jobs.items r.audit.created r.audit.acts.items created acts
+            (subst (λ (l : List Job). AreAnswered lines commands so.replies l) (sym jobs_are) none);
+        epochs = epochs;
+        text_is = text_so (length commands) so;
+      })
+
+  -- there was no memory for an answer
+  pub ran_short : (count : ℕ) → AnswersTo lines commands count d → r.ended ≡ Err stop.Memory → IfErr r.ended (StopsTo lines commands r)
+  ran_short count so ended =
+      subst (λ (e : Result (Unit {0}) Stop). IfErr e (StopsTo lines commands r)) (sym ended) (record {
+        replies = so.replies;
+        runs = some_answered lines commands count so.replies r.audit.jobs.items r.audit.created r.audit.acts.items created acts
+            (subst (λ (l : List Job). AreAnswered (take count lines) (take count commands) so.replies l) (sym jobs_are) so.answered);
+        epochs = epochs;
+        text_is = text_so count so;
+      })

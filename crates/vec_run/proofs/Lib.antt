@@ -1,4 +1,6 @@
 mod AnswerSteps
+mod Drawn
+mod RunEnds
 mod Ending
 mod Joined
 mod Moving

@@ -4,4 +4,5 @@ pub mod Exact
 pub mod Refusals
 pub mod Replies
 pub mod Runs
+pub mod Scripts
 pub mod Verbs

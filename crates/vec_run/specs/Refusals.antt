@@ -4,7 +4,7 @@ use Rattle.vec_outside.specs.declared.outage.Outage.{Outage}
 use Rattle.vec_outside.specs.declared.outage.Outage.TheVariants as outage
 use Rattle.script_words.specs.declared.fault.ScriptFault.{ScriptFault}
 use Rattle.script_words.specs.declared.fault.ScriptFault.TheVariants as fault
-use Rattle.script_words.specs.declared.form.Form.TheVariants as form
+use Rattle.script_words.specs.declared.form.Form.{Form}
 use Rattle.script_words.specs.Grammar.{IsFirstOutside}
 use Rattle.vec_run.specs.declared.refusal.ReadRefusal.{ReadRefusal}
 use Rattle.vec_run.specs.declared.refusal.ReadRefusal.TheVariants.{Memory, Failed, Line}
@@ -20,7 +20,13 @@ script_refusal fault.Memory = Memory
 script_refusal (fault.Line line) = Line line
 
 -- The line is the first of the source's bytes that is outside the form. Of want of memory nothing is said.
-abbrev pub IsSourceRefusal : Option (List ℕ) → ReadRefusal → Type 0
-IsSourceRefusal left Memory = Unit {0}
-IsSourceRefusal left Failed = Unit {0}
-IsSourceRefusal left (Line line) = IfSome left (λ input. IsFirstOutside form.Exact input line)
+abbrev pub IsSourceRefusal : Form → Option (List ℕ) → ReadRefusal → Type 0
+IsSourceRefusal form left Memory = Unit {0}
+IsSourceRefusal form left Failed = Unit {0}
+IsSourceRefusal form left (Line line) = IfSome left (λ input. IsFirstOutside form input line)
+
+-- the same of a text that was read
+abbrev pub IsTextRefusal : Form → List ℕ → ReadRefusal → Type 0
+IsTextRefusal form bytes Memory = Unit {0}
+IsTextRefusal form bytes Failed = ⊥
+IsTextRefusal form bytes (Line line) = IsFirstOutside form bytes line

@@ -17,10 +17,12 @@ pub enum End {
     Read,
     /// A write to the sink failed.
     Write,
+    /// A command wanted room that the index or its log does not have.
+    Room,
 }
 
 impl End {
-    ghost use Rattle.std.specs.Prelude.{◌≡◌, ◌≤◌};
+    ghost use Rattle.std.specs.Prelude.{◌≡◌, ◌⊎◌, ◌≤◌};
     ghost use Rattle.vec_run.specs.Ends.{line_of, status_of};
 
     /// The status that the program ends with.
@@ -34,6 +36,7 @@ impl End {
             End::Line(_) => 3,
             End::Read => 4,
             End::Write => 5,
+            End::Room => 7,
         }
     }
 
@@ -43,14 +46,14 @@ impl End {
     {
         match self {
             End::Line(line) => line,
-            End::Done | End::Memory | End::Words | End::Read | End::Write => 0,
+            End::Done | End::Memory | End::Words | End::Read | End::Write | End::Room => 0,
         }
     }
 
     /// The end with this status, and at status 3 with this line. Each status of a run has its case:
     /// where a run may end with another one, the check refuses the call until that one has its own.
     pub fn from_status(status: u8, line: u64) -> End
-        requires { status ≤ 5 }
+        requires { (status ≤ 5) ⊎ (status ≡ 7) }
         ensures status { status_of result ≡ status }
         ensures line { status ≡ 3 → line_of result ≡ line }
     {
@@ -61,6 +64,7 @@ impl End {
             3 => End::Line(line),
             4 => End::Read,
             5 => End::Write,
+            7 => End::Room,
             _ => unreachable!(),
         }
     }
@@ -80,6 +84,7 @@ impl fmt::Display for End {
             End::Line(line) => write!(f, "line {line} refused"),
             End::Read => write!(f, "read fault"),
             End::Write => write!(f, "write fault"),
+            End::Room => write!(f, "room used up"),
         }
     }
 }

@@ -1,12 +1,15 @@
 // The run of `exact`.
-ghost use Rattle.std.specs.Prelude.{ℕ, ◌≡◌, ◌+◌, ◌^◌, ◌<◌, ◌≤◌, [], ◌++◌, length, map, OnOk, OnErr, IfOk, IfErr, IfSome};
+ghost use Rattle.std.specs.Prelude.{ℕ, Option, ◌≡◌, ◌≢◌, ◌+◌, ◌^◌, ◌<◌, ◌≤◌, [], ◌++◌, length, map, OnOk, OnErr, IfOk, IfErr, IfSome};
 ghost use Rattle.std.specs.Io.KnownBytes.{Appends, IsAtEnd};
 ghost use Rattle.vec_outside.specs.Causes.{HasCause, Rose};
 ghost use Rattle.vec_run.specs.Exact.{AppendsFront, MovesFront, TakesAtMost};
 ghost use Rattle.script_words.specs.Grammar.{AreEqual, IsScript, places_in};
 ghost use Rattle.vec_run.specs.Refusals.{IsSourceRefusal};
 ghost use Rattle.vec_run.specs.Replies.{replies_of, reply_at};
+ghost use Rattle.vec_run.specs.Runs.{IsIdle};
 ghost use Rattle.vec_run.specs.Verbs.{IsEndOf};
+ghost use Rattle.vec_run.specs.declared.audit.Audit.{Audit as AnyAudit};
+ghost use Rattle.vec_run.specs.declared.audit.Room.{Room as AnyRoom};
 ghost use Rattle.vec_run.specs.declared.end.End.TheVariants as end;
 ghost use Rattle.vec_run.specs.declared.refusal.ReadRefusal.TheVariants as refusal;
 ghost use Rattle.vec_run.specs.declared.top.Verb.TheVariants.{Exact};
@@ -25,8 +28,10 @@ const PIECE: usize = 1 << 16;
 
 /// Reads the whole source, and writes the replies to its queries.
 pub fn run_exact<S: Source, K: Sink>(alloc: Global, source: &mut S, sink: &mut K) -> End
-    ensures end { IsEndOf Exact (S.left source.old) (S.left source.new) (K.held sink.old) (K.held sink.new) result }
+    ensures end { (audit : AnyAudit) (room : Option AnyRoom) → IsIdle audit → IsEndOf Exact (S.left source.old) (S.left source.new)
+        (K.held sink.old) (K.held sink.new) audit room result }
     ensures refused { (line : ℕ) → result ≡ end.Line line → sink.new ≡ sink.old }
+    ensures no_room { result ≢ end.Room }
     ensures unread { result ≡ end.Read → sink.new ≡ sink.old }
     ensures read { result ≡ end.Read → Rose (S.count source.old) (S.count source.new) }
     ensures write { result ≡ end.Write → Rose (K.count sink.old) (K.count sink.new) }
@@ -52,7 +57,7 @@ fn read_commands<S: Source>(alloc: Global, source: &mut S) -> Result<Vec<Command
     ensures ok { IfOk result (λ commands. IfSome (S.left source.old) (λ input.
         IsAtEnd (S.left source.new) × IsScript form.Exact input commands.items)) }
     ensures one_length { IfOk result (λ commands. AreEqual (map places_in commands.items)) }
-    ensures refused { IfErr result (IsSourceRefusal (S.left source.old)) }
+    ensures refused { IfErr result (IsSourceRefusal form.Exact (S.left source.old)) }
     ensures read { IfErr result (λ why. why ≡ refusal.Failed → Rose (S.count source.old) (S.count source.new)) }
     ensures taken { TakesAtMost (2 ^ 28 + 1) (S.left source.old) (S.left source.new) }
     ensures later { S.count source.old ≤ S.count source.new }

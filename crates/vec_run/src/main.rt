@@ -1,6 +1,7 @@
 //! A near-neighbour index over bit strings: reads a command script and writes its replies.
 #![tactic(auto)]
 
+mod alone;
 mod audit;
 mod before;
 mod commands;
@@ -8,6 +9,7 @@ mod creating;
 mod done;
 mod end;
 mod exact;
+mod finish;
 mod indexed;
 mod lone;
 mod refusal;
@@ -28,7 +30,7 @@ fn main(rt: HostRuntime) -> ExitCode {
         Ok(words) => words,
         Err(end) => return ended(&rt, end),
     };
-    // `exact` makes no call of the disks: empty ones in memory stand in for the files.
+    // No verb makes a call of the disks: empty ones in memory stand in for the files.
     let disks = match MemDisks::empty(rt.alloc()) {
         Ok(disks) => disks,
         Err(_) => return ended(&rt, End::Memory),
