@@ -165,17 +165,19 @@ module _ (lines : List ℕ) (commands : List Command) (at line : ℕ) (c : Comma
         let r : RunUpTo (take (at + 1 + so.count) lines) (take (at + 1 + so.count) commands) line p so.mid after =
         up_to so.mid (take so.count ls) (take (at + 1 + so.count) lines) (take so.count cs) (take (at + 1 + so.count) commands)
         (cut_front lines at line 0 line_within line_is so.count ∙ ap (λ (l : List ℕ). take at lines ++ line ∷ take so.count l) (sym lines_are))
-        (cut_front commands at c c within is so.count ∙ ap (λ (l : List Command). take at commands ++ c ∷ take so.count l) (sym commands_are)) so.runs in
-        (r, record {
-          count = at + 1 + so.count;
-          made = Some p;
-          mid = so.mid;
-          run = r.run;
-          more = so.more;
-          all = so.all;
-          legal = legal;
-          why_is = why_behind so.mid so.count why so.why_is;
-        })
+        (cut_front commands at c c within is so.count ∙ ap (λ (l : List Command). take at commands ++ c ∷ take so.count l) (sym commands_are)) so.runs in (
+          r,
+          record {
+            count = at + 1 + so.count;
+            made = Some p;
+            mid = so.mid;
+            run = r.run;
+            more = so.more;
+            all = so.all;
+            legal = legal;
+            why_is = why_behind so.mid so.count why so.why_is;
+          },
+        )
 
 -- nothing was made, for want of memory
 pub nothing_made : (lines : List ℕ) (commands : List Command) (at : ℕ) (m : Made) (d : Done) → m.created ≡ None → m.acts.items ≡ []

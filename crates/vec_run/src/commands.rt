@@ -93,8 +93,14 @@ fn run_new(
     let line = lines[at];
     match answer_create(alloc, line, done) {
         Ok(()) => {
-            let (ended, acts) =
-                run_lone(alloc, desk, params, &lines[at + 1..], &commands[at + 1..], done);
+            let (ended, acts) = run_lone(
+                alloc,
+                desk,
+                params,
+                &lines[at + 1..],
+                &commands[at + 1..],
+                done,
+            );
             Made {
                 created: Some(line),
                 acts,

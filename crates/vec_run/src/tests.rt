@@ -149,7 +149,7 @@ fn every_cut(rt: HostRuntime) -> Result<(), Fail> {
 
 #[test]
 fn words_and_faults(rt: HostRuntime) -> Result<(), Fail> {
-    for words in ["", "exact now", "Exact", "alone"] {
+    for words in ["", "exact now", "Exact", "alone now", "run"] {
         let (status, _, text) = ran(&rt, rt.alloc(), words, FOUR_ROWS, &[], &[])?;
         assert_eq!(rt; status, 2);
         assert!(rt; text.is_empty());
@@ -204,13 +204,14 @@ fn a_byte_at_a_time(rt: HostRuntime) -> Result<(), Fail> {
     Ok(())
 }
 
-const ENDS: [(End, u8, u64, &str); 6] = [
+const ENDS: [(End, u8, u64, &str); 7] = [
     (End::Done, 0, 0, "done"),
     (End::Memory, 1, 0, "out of memory"),
     (End::Words, 2, 0, "words refused"),
     (End::Line(12), 3, 12, "line 12 refused"),
     (End::Read, 4, 0, "read fault"),
     (End::Write, 5, 0, "write fault"),
+    (End::Room, 7, 0, "room used up"),
 ];
 
 #[test]
@@ -221,5 +222,58 @@ fn ends_and_their_texts(rt: HostRuntime) -> Result<(), Fail> {
         assert_eq!(rt; end.to_string(rt.alloc())?.as_str(), text);
     }
     assert_eq!(rt; End::from_status(3, 12), End::Line(12));
+    assert_eq!(rt; End::from_status(7, 0), End::Room);
+    Ok(())
+}
+
+// Scripts of one index, and what is written of them.
+const ALONE: [(&[u8], &[u8]); 5] = [
+    (b"", b""),
+    // Where no index stands.
+    (
+        b"draw 1\nstats\ninsert 1/1 0000 7\n",
+        b"refused no-index\nrefused no-index\n",
+    ),
+    // Parameters out of range, an index, and a second one.
+    (
+        b"create hnsw hamming 4 m 16 ef 31\ncreate hnsw hamming 4 m 16 ef 32\n\ncreate hnsw hamming 4\n",
+        b"refused params\ncreated blocks 1 entries 0\nrefused exists\n",
+    ),
+    // Rows, one of another length, and the counts.
+    (
+        b"create hnsw hamming 4 m 2 ef 4\ninsert 1/1 0000 18446744073709551615\ninsert 1/9 00000\nstats",
+        b"created blocks 1 entries 0\nput 1/1 level 0 version 1\nrefused dimensions\nstats blocks 2 nodes 1 live 1 doomed 0 deleted 0 entries 1\n",
+    ),
+    // An equal value joins its node.
+    (
+        b"create hnsw jaccard 4 m 2 ef 4\ninsert 1/1 0101 18446744073709551615\ninsert 1/2 0101\n",
+        b"created blocks 1 entries 0\nput 1/1 level 0 version 1\njoined 1/1\n",
+    ),
+];
+
+#[test]
+fn scripts_of_one_index(rt: HostRuntime) -> Result<(), Fail> {
+    for (script, want) in &ALONE {
+        let (status, line, text) = ran(&rt, rt.alloc(), "alone", script, &[], &[])?;
+        assert_eq!(rt; status, 0);
+        assert_eq!(rt; line, 0);
+        assert_eq!(rt; text.as_slice(), *want);
+    }
+    Ok(())
+}
+
+// A line that is outside the form: no command is run, not even those above it.
+#[test]
+fn refused_lines_of_one_index(rt: HostRuntime) -> Result<(), Fail> {
+    for script in [
+        b"stats\nserch 0000".as_slice(),
+        b"stats\nrow 1/1 0000",
+        b"stats\nquery 0",
+    ] {
+        let (status, line, text) = ran(&rt, rt.alloc(), "alone", script, &[], &[])?;
+        assert_eq!(rt; status, 3);
+        assert_eq!(rt; line, 2);
+        assert!(rt; text.is_empty());
+    }
     Ok(())
 }

@@ -76,12 +76,7 @@ fn verb_of(words: &[String]) -> Option<Verb>
 }
 
 // Runs a verb.
-fn run_verb<S: Source, K: Sink>(
-    alloc: Global,
-    verb: Verb,
-    source: &mut S,
-    sink: &mut K,
-) -> Finish
+fn run_verb<S: Source, K: Sink>(alloc: Global, verb: Verb, source: &mut S, sink: &mut K) -> Finish
     ensures end { IsEndOf verb (S.left source.old) (S.left source.new) (K.held sink.old) (K.held sink.new) result.audit result.room
         result.end }
     ensures no_room { result.end ≢ end.Room → result.room ≡ None }

@@ -9,9 +9,8 @@ use Rattle.vec_run.proofs.exact.run_exact.Goals as goal
 pub returns-in-Err-Line-clause-end : goal.returns-in-Err-Line-clause-end
 returns-in-Err-Line-clause-end g c audit room idle =
     let left = g.S.Source.left c.args.source.now in
-    let w = c.in-Err-Line in
-    (
+    let w = c.in-Err-Line in (
       subst (λ (n : ℕ). IsRefusedAt Exact left n) (sym w.line-is)
-      (subst (λ (why : ReadRefusal). IsSourceRefusal form.Exact left why) w.field-0-is w.ensures.refused),
+          (subst (λ (why : ReadRefusal). IsSourceRefusal form.Exact left why) w.field-0-is w.ensures.refused),
       idle,
     )
