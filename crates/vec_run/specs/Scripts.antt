@@ -48,7 +48,8 @@ pub record RanPart (lines : List ℕ) (commands : List Command) (held held' : Op
   pub written : AppendsFront held held' (text_of replies)
 
 -- They were run up to one that wanted this room, and the replies to those before it were written.
-pub record RanToRoom (lines : List ℕ) (commands : List Command) (held held' : Option (List ℕ)) (a : Audit) (room : Option Room) : Type 0 where
+pub record RanToRoom (lines : List ℕ) (commands : List Command) (held held' : Option (List ℕ)) (a : Audit) (room : Option Room)
+    : Type 0 where
   pub wanted : Room
   pub room_is : room ≡ Some wanted
   pub replies : List Reply
