@@ -1,5 +1,5 @@
 -- What is so over some bases is so over fewer.
-use Rattle.std.proofs.Common.{◌≡◌, ℕ, List, [], ◌∷◌, Option, Some, None, inl, inr, refl}
+use Rattle.std.proofs.Common.{ℕ, List, Option, Some, None, inl, inr, refl}
 use Rattle.std.specs.Prelude.{Bool}
 use Rattle.vec_names.specs.declared.heap_id.HeapId.{HeapId}
 use Rattle.vec_history.specs.declared.event.Act.{Act}
@@ -10,20 +10,18 @@ use Rattle.vec_steps.specs.declared.fault.OpFault.{OpFault}
 use Rattle.vec_steps.specs.declared.fault.OpFault.TheVariants as fault
 use Rattle.vec_steps.specs.Index.{Index}
 use Rattle.vec_steps.specs.Desks.{Desk}
-use Rattle.vec_steps.proofs.Following.{does_over, does_so_over}
+use Rattle.vec_steps.proofs.Following.{does_so_over}
 use Rattle.layer_search.proofs.Looks.{ended_over}
-use Rattle.hnsw_insert.specs.Courses.{IsOfInsert, StopsBy}
-use Rattle.hnsw_insert.specs.Whole.{FailsSo, Inserts, IsFull}
+use Rattle.hnsw_insert.specs.Whole.{FailsSo}
 use Rattle.hnsw_insert.proofs.Gates.{gives_over}
 use Rattle.hnsw_insert.proofs.Made.{went_over}
 use Rattle.hnsw_insert.proofs.Stopped.{stops_as}
 use Rattle.script_jobs.specs.declared.job.Job.{Job}
-use Rattle.script_jobs.specs.Counting.{CountsNodes}
 use Rattle.bit_dist.specs.Hits.{Hit}
 use Rattle.graph_search.specs.Scan.{Standing}
 use Rattle.hnsw_scan.specs.Scanning.{Wanted}
 use Rattle.script_words.specs.declared.command.Further.{Further}
-use Rattle.script_jobs.specs.Jobs.{Does, Fails, InsertsRow, IsDone, IsOtherLength, TellsCounts, TellsRows}
+use Rattle.script_jobs.specs.Jobs.{Does, Fails, InsertsRow, IsDone, TellsCounts, TellsRows}
 use Rattle.script_jobs.specs.Searching.{SearchEnds, Searched}
 use Rattle.script_jobs.proofs.Batches.{end_over, freed_over, gated_over}
 
