@@ -2,6 +2,7 @@
 # How many rows a second are inserted and how many searches a second are made over a board, by values of 256 places with m 16, ef 64
 # for inserts and ef 40 for searches: of the 1,000 packages of examples/, each searched for, and of 64,000 random rows, with 1,000
 # random queries. Beside it the same rules over arrays in plain Rust, which give the same graph: both print the same sum of distances.
+# The last number of each run is how many looks the searches made over the board, or how many distances they counted in arrays.
 # With perf it prints where the searches of the packages spend their time. Not part of the gate.
 # usage: bench/search.sh, at the top of the repository; it needs rustc, python3 and some minutes.
 set -eu
