@@ -9,7 +9,8 @@ first="none 1"
 crates=$(sed -n 's/^vec_board: //p' crates.txt | tr ' ' '\n' | grep -v -e arrayvec -e thiserror)
 bench_program steps_bench u64 $crates vec_board <<'RATTLE'
 //! Looks at nodes, or at their neighbours, one after the other in an order that jumps about. It prints how many bits or slots were
-//! told. Words: none, node or list; and how many looks. Not read by the gate.
+//! told. Words: none, node, list, or turn, which looks at nodes, each at a place that hangs on what was told before, as a
+//! search does; and how many looks. Not read by the gate.
 #![tactic(auto)]
 
 ghost use Rattle.std.specs.Prelude.{◌≡◌, ◌≤◌, IfSome, length};
@@ -63,7 +64,10 @@ fn answer(rt: &HostRuntime) -> Option<u64> {
     }
     let mut desk = LoneDesk::over(Board::from_loaded(alloc, disks, loaded));
     if what.as_str() == "node" {
-        return nodes(alloc, &mut desk, looks);
+        return nodes(alloc, &mut desk, looks, false);
+    }
+    if what.as_str() == "turn" {
+        return nodes(alloc, &mut desk, looks, true);
     }
     if what.as_str() == "list" {
         return lists(alloc, &mut desk, looks);
@@ -142,25 +146,32 @@ fn place(k: u32) -> Option<Tid> {
     Tid::new(block, off)
 }
 
-fn nodes<S: Steps>(alloc: Global, steps: &mut S, looks: u32) -> Option<u64> {
+fn nodes<S: Steps>(alloc: Global, steps: &mut S, looks: u32, in_turn: bool) -> Option<u64> {
     if !PARAMS.check() {
         return None;
     }
     let mut told = Told::make(alloc, PARAMS).ok()?;
     let mut sum: u64 = 0;
+    let mut more: u32 = 0;
     for k in 0..looks {
         if told.bits.count() != steps.params().bits {
             return None;
         }
         let mut ask = Ask::Node {
-            at: place(k)?,
+            at: place(k.wrapping_add(more))?,
             layer: 0,
             version: None,
         };
         steps.step(&mut ask, &mut told).ok()?;
+        more = after(in_turn, told.version);
         sum = sum.wrapping_add(u64::from(told.bits.count()));
     }
     Some(sum)
+}
+
+// 0, for each version is 1; in turn, it is known only when the look has told it.
+fn after(in_turn: bool, version: u8) -> u32 {
+    if in_turn { u32::from(version.wrapping_sub(1)) } else { 0 }
 }
 
 fn lists<S: Steps>(alloc: Global, steps: &mut S, looks: u32) -> Option<u64> {
@@ -219,12 +230,17 @@ fn main() {
     let mut ids = [0u8; 60];
     let mut slots: Vec<Option<(u32, u16)>> = Vec::with_capacity(32);
     let mut sum = 0u64;
+    let mut more = 0u32;
+    let list = words[1] == "list";
+    let turn = words[1] == "turn";
     let began = Instant::now();
     for k in 0..looks {
+        let k = k.wrapping_add(more);
         let page = &pages[(k.wrapping_mul(1103) % PAGES) as usize + 1];
         let off = (k % 25) as usize * 2 + 1;
-        if words[1] == "node" {
+        if !list {
             let element = item(page, off);
+            more = if turn { element[3] as u32 } else { 0 };
             ids.copy_from_slice(&element[4..64]);
             bits.copy_from_slice(&element[80..112]);
             sum += bits[(k % 32) as usize] as u64 + ids[(k % 60) as usize] as u64 + 256;
@@ -250,7 +266,7 @@ seconds() {
     echo "$end - $start" | bc
 }
 making=$(seconds none 0)
-for what in node list; do
+for what in node turn list; do
     echo "$what: $(echo "$(seconds $what 1000000) - $making" | bc) s for a million looks, over a board"
     echo "$what: $("$work/plain" $what 1000000), over the same bytes in plain Rust"
 done

@@ -24,6 +24,3 @@ pub use linking::link_back;
 pub use listing::find_lists;
 pub use resuming::Search;
 pub use searching::search_layer;
-
-#[cfg(test)]
-mod tests;

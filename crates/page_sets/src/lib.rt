@@ -15,8 +15,3 @@ pub use doing::{blocks_after, commit};
 pub use looking::{look, look_meta};
 pub use page_list::PageList;
 pub use page_set::PageSet;
-
-#[cfg(test)]
-mod doing_tests;
-#[cfg(test)]
-mod tests;

@@ -13,6 +13,3 @@ mod rows;
 pub use deciding::decide;
 pub use event::event_of;
 pub use making::Making;
-
-#[cfg(test)]
-mod tests;

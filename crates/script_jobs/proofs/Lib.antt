@@ -1,7 +1,8 @@
 pub mod Sums
 pub mod Looked
 pub mod Chain
+pub mod NoGate
+pub mod Batches
 pub mod Over
 pub mod Going
-pub mod UpdateAlone
 pub mod Replied

@@ -26,7 +26,7 @@ use Rattle.vec_steps.specs.Doing.{Step, Cleaned, did, overfull, cleaned, viewed,
 use Rattle.vec_steps.specs.Telling.{seen_told, step_of, fault_step}
 use Rattle.vec_steps.specs.Desks.{Asks, Desk}
 use Rattle.vec_steps.specs.Calls.{Acts, Does, DoesSo, Failed, HoldsNone, IsCause, IsLogFault, Looks, NoneOf, Stepped, course_at, events_of, is_look, steps_of}
-use Rattle.vec_steps.proofs.Following.{acts_longer, does_nothing, does_over, does_so_then, does_then, fault_does, one_step}
+use Rattle.vec_steps.proofs.Following.{does_nothing, does_so_then, does_then, fault_does, one_step}
 use Rattle.step_gates.proofs.Holding.{held_before}
 use Rattle.layer_search.specs.Looking.{EndedBy}
 use Rattle.hnsw_insert.specs.Over.{OverGraphs, OverNodes}

@@ -13,7 +13,6 @@ use Rattle.vec_names.specs.declared.heap_id.HeapId.{HeapId}
 use Rattle.vec_names.specs.Order.{tid_cmp, tid_cmp_total, tid_cmp_exact}
 use Rattle.vec_graph.specs.declared.node.Node.{Node}
 use Rattle.vec_graph.specs.declared.graph.Graph.{Graph}
-use Rattle.vec_graph.specs.Graph.{node_at}
 use Rattle.vec_graph.specs.Shaped.{IsShaped}
 use Rattle.vec_graph.proofs.Copies.{equal, left, right, missing}
 use Rattle.graph_search.specs.Reads as read

@@ -1,16 +1,18 @@
 -- What a command does over an index that stands: its acts and looks, its reply, and its job.
-use Rattle.std.specs.Prelude.{◌≡◌, ◌≢◌, ◌⊎◌, ℕ, ⊤, if◌then◌else◌, Bool, List, [], ◌∷◌, ◌++◌, filter, flat_map, length, Option, Some, None}
+use Rattle.std.specs.Prelude.{◌≡◌, ◌≢◌, ◌⊎◌, ℕ, ⊤, if◌then◌else◌, Bool, List, [], ◌∷◌, ◌++◌}
+use Rattle.std.specs.Prelude.{filter, flat_map, take, length, Option, Some, None}
 use Rattle.vec_names.specs.declared.heap_id.HeapId.{HeapId}
 use Rattle.vec_names.specs.Levels.{level_of}
+use Rattle.bit_dist.specs.Hits.{Hit}
 use Rattle.vec_history.specs.declared.event.Event.{Event}
 use Rattle.vec_history.specs.declared.event.Event.TheVariants as event
 use Rattle.vec_history.specs.declared.event.Act.{Act}
 use Rattle.graph_search.specs.Deeds.{is_of_row, own_events}
 use Rattle.script_words.specs.declared.command.Command.{Command}
 use Rattle.script_words.specs.declared.command.Command.TheVariants.{Row, Query, Draw, Create, Insert, Search, Stats}
+use Rattle.script_words.specs.declared.command.Further.{Further}
 use Rattle.script_words.specs.declared.reply.Counts.{Counts}
-use Rattle.script_words.specs.declared.reply.Refusal.{Refusal}
-use Rattle.script_words.specs.declared.reply.Refusal.TheVariants.{Exists, Dimensions}
+use Rattle.script_words.specs.declared.reply.Refusal.TheVariants.{Exists, Params, Dimensions}
 use Rattle.script_words.specs.declared.reply.Reply.{Reply}
 use Rattle.script_words.specs.declared.reply.Reply.TheVariants as reply
 use Rattle.script_words.specs.Replies.{reply_text}
@@ -23,6 +25,7 @@ use Rattle.layer_search.specs.Looking.{EndedBy}
 use Rattle.hnsw_insert.specs.Whole.{FailsSo, Inserts}
 use Rattle.script_jobs.specs.declared.job.Job.{Job}
 use Rattle.script_jobs.specs.Counting.{CountsNodes}
+use Rattle.script_jobs.specs.Searching.{AreHits, AreInRange, Finds, SearchEnds, wanted_for}
 
 -- ---- jobs
 
@@ -74,6 +77,21 @@ pub record IsOtherLength (d : Desk) (old new : List Act) (bits : List Bool) (rea
   pub idle : IsIdle old new reads
   pub told_is : told ≡ reply.Refused Dimensions
 
+-- A search of which a number is out of its range is refused.
+pub record IsOutOfRange (old new : List Act) (ef : Option ℕ) (further : Option Further) (reads : List ℕ) (told : Reply) : Type 0 where
+  pub out : AreInRange ef further → ⊥
+  pub idle : IsIdle old new reads
+  pub told_is : told ≡ reply.Refused Params
+
+-- A search found rows, and the reply tells the first of them, up to the limit.
+pub record TellsRows (over : Index → Type 0) (d : Desk) (old new : List Act) (bits : List Bool) (limit : ℕ) (ef : Option ℕ)
+    (further : Option Further) (reads : List ℕ) (told : Reply) : Type 0 where
+  pub in_range : AreInRange ef further
+  pub fits : length bits ≡ d.params.bits
+  pub hits : List Hit
+  pub finds : Finds over d old new (wanted_for bits ef further) limit hits reads
+  pub told_is : AreHits d.params.ops (take limit hits) told
+
 -- the reply tells the counts of the graph; job.reads is of inserts and searches alone
 pub record TellsCounts (over : Index → Type 0) (d : Desk) (old new : List Act) (reads : List ℕ) (told : Reply) : Type 0 where
   pub counts : Counts
@@ -90,20 +108,23 @@ Does over d old new (Create ops bits m ef round) reads told = IsIdle old new rea
 Does over d old new (Insert id bits None) reads told = ⊥
 Does over d old new (Insert id bits (Some word)) reads told =
     InsertsRow over d old new id bits word reads told ⊎ IsOtherLength d old new bits reads told
-Does over d old new (Search bits limit ef further) reads told = ⊥
+Does over d old new (Search bits limit ef further) reads told =
+    TellsRows over d old new bits limit ef further reads told ⊎ IsOutOfRange old new ef further reads told
+    ⊎ (AreInRange ef further × IsOtherLength d old new bits reads told)
 Does over d old new Stats reads told = TellsCounts over d old new reads told
 
 -- the command can be done: it is no query, and an insert has its word
 abbrev pub CanBeDone : Command → Type 0
 CanBeDone (Query bits) = ⊥
 CanBeDone (Insert id bits None) = ⊥
-CanBeDone (Search bits limit ef further) = ⊥
 CanBeDone _ = ⊤
 
 -- How a fault ends a command. Only an insert, a search and a count make steps.
 abbrev pub Fails : (Index → Type 0) → Desk → List Act → List Act → Command → OpFault → Type 0
 Fails over d old new (Insert id bits (Some word)) fault = FailsSo over d old new (length bits) (level_of word d.params.m) fault
     × IsNoLength fault
+Fails over d old new (Search bits limit ef further) fault = AreInRange ef further × (length bits ≡ d.params.bits)
+    × SearchEnds over d old new (wanted_for bits ef further) limit fault × IsNoLength fault
 Fails over d old new Stats fault = EndedBy over d old new fault
 Fails over d old new _ fault = ⊥
 

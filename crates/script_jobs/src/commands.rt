@@ -8,6 +8,7 @@ ghost use Rattle.script_jobs.specs.Jobs.{CanBeDone, Does, Fails, IsDone};
 
 use crate::job::Job;
 use crate::rows::insert_row;
+use crate::searching::search_rows;
 use crate::stats::count_nodes;
 use script_words::{Command, Refusal, Reply};
 use std::alloc::Global;
@@ -42,6 +43,12 @@ fn do_command<S: Steps>(
             bits,
             word: Some(word),
         } => insert_row(alloc, steps, *id, bits, *word),
+        Command::Search {
+            bits,
+            limit,
+            ef,
+            further,
+        } => search_rows(alloc, steps, bits, *limit, *ef, *further),
         Command::Stats => {
             let counts = count_nodes(alloc, steps)?;
             Ok((Reply::Stats { counts }, Listed::new(alloc)))
@@ -53,8 +60,8 @@ fn do_command<S: Steps>(
 /// Does a command of a script over an index of nodes: what it is answered, and its job. An insert has its word filled in.
 ///
 /// The desk holds no gate. A command that is refused makes no act and no look. Its errors are those of an insert, which has the causes
-/// that `hnsw_insert` tells, and of a count: `Memory`, `Full`, `LogFull` and `Disk`; a value of another length is no fault, but is
-/// refused.
+/// that `hnsw_insert` tells, of a search and of a count: `Memory`, `Full`, `LogFull` and `Disk`; a value of another length is no
+/// fault, but is refused.
 pub fn one<S: Steps>(
     alloc: Global,
     steps: &mut S,

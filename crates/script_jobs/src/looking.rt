@@ -38,7 +38,8 @@ pub fn look_at_page<S: Steps>(steps: &mut S, block: u32, told: &mut Told) -> Res
     ensures told { length told.new.bits ≡ (S.desk steps.old).params.bits }
     ensures looked { OnOk result (DoesSo Looks (OverGraphs (S.stands steps.old) (λ g. block < (after g (S.seen steps.old)).blocks))
         (S.desk steps.old) (S.seen steps.old) (S.seen steps.new)) }
-    ensures exact { OnOk result ((g : Graph) → OverGraphs (S.stands steps.old) (λ g. block < (after g (S.seen steps.old)).blocks) (OfNodes g)
+    ensures exact { OnOk result ((g : Graph)
+        → OverGraphs (S.stands steps.old) (λ g. block < (after g (S.seen steps.old)).blocks) (OfNodes g)
         → S.seen steps.new ≡ S.seen steps.old → map seen_told told.new.nodes ≡ nodes_on (after g (S.seen steps.old)) block) }
     ensures err { IfErr result (EndedBy (OverGraphs (S.stands steps.old) (λ g. block < (after g (S.seen steps.old)).blocks))
         (S.desk steps.old) (S.seen steps.old) (S.seen steps.new)) }

@@ -20,11 +20,13 @@ use vec_steps::{OpFault, Steps, Told};
 // The counts of the nodes on so many blocks.
 fn count_on<S: Steps>(steps: &mut S, blocks: u32, told: &mut Told) -> Result<Counts, OpFault>
     requires told { length told.old.bits ≡ (S.desk steps.old).params.bits }
-    ensures goes { Goes S.desk S.stands S.comes_from (OverGraphs (S.stands steps.old) (HasBlocks (S.seen steps.old) blocks)) steps.old steps.new }
+    ensures goes { Goes S.desk S.stands S.comes_from (OverGraphs (S.stands steps.old) (HasBlocks (S.seen steps.old) blocks)) steps.old
+        steps.new }
     ensures looked { OnOk result (DoesSo Looks (OverGraphs (S.stands steps.old) (HasBlocks (S.seen steps.old) blocks)) (S.desk steps.old)
         (S.seen steps.old) (S.seen steps.new)) }
     ensures exact { IfOk result (λ counts. (g : Graph) → OverGraphs (S.stands steps.old) (HasBlocks (S.seen steps.old) blocks) (OfNodes g)
-        → S.seen steps.new ≡ S.seen steps.old → blocks ≡ (after g (S.seen steps.old)).blocks → counts ≡ counts_of (after g (S.seen steps.old))) }
+        → S.seen steps.new ≡ S.seen steps.old → blocks ≡ (after g (S.seen steps.old)).blocks
+        → counts ≡ counts_of (after g (S.seen steps.old))) }
     ensures err { IfErr result (EndedBy (OverGraphs (S.stands steps.old) (HasBlocks (S.seen steps.old) blocks)) (S.desk steps.old)
         (S.seen steps.old) (S.seen steps.new)) }
 {

@@ -115,7 +115,7 @@ HasRest rest Stats = rest ≡ []
 abbrev pub HasWords : List (List ℕ) → Command → Type 0
 HasWords words command = (rest : List (List ℕ)) × (words ≡ verb_of command ∷ rest) × HasRest rest command
 
--- The form has this command. In `Exact` a row has no word of its own. `Rowless` has those of `Alone` that are done today.
+-- The form has this command. In `Exact` a row has no word of its own. `Rowless` has those of `Alone` but for rows.
 abbrev pub IsOf : Form → Command → Type 0
 IsOf Exact (Row id bits None) = Unit {0}
 IsOf Exact (Row id bits (Some word)) = ⊥
@@ -137,5 +137,5 @@ IsOf Rowless (Query bits) = ⊥
 IsOf Rowless (Draw seed) = Unit {0}
 IsOf Rowless (Create ops bits m ef round) = Unit {0}
 IsOf Rowless (Insert id bits word) = Unit {0}
-IsOf Rowless (Search bits limit ef further) = ⊥
+IsOf Rowless (Search bits limit ef further) = Unit {0}
 IsOf Rowless Stats = Unit {0}

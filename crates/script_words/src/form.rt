@@ -12,7 +12,7 @@ pub enum Form {
     Exact,
     /// The commands of one index, without queries.
     Alone,
-    /// Those of `Alone` that the program does today: no rows, of which an index would be built, and no searches.
+    /// Those of `Alone` but for rows, of which an index would be built: what the program does today.
     Rowless,
 }
 
@@ -31,7 +31,7 @@ pub fn is_of(form: Form, command: &Command) -> bool
             _ => true,
         },
         Form::Rowless => match command {
-            Command::Row { .. } | Command::Query { .. } | Command::Search { .. } => false,
+            Command::Row { .. } | Command::Query { .. } => false,
             _ => true,
         },
     }

@@ -328,16 +328,16 @@ fn hits_of_both_distances(rt: HostRuntime) -> Result<(), Fail> {
     Ok(())
 }
 
-// Lines that are skipped are counted, and have no command. Rows and searches are not run yet.
+// Lines that are skipped are counted, and have no command. Rows are not run yet.
 #[test]
 fn numbers_of_lines(rt: HostRuntime) -> Result<(), Fail> {
     numbered();
-    let text = b"# index\n\ncreate hnsw hamming 4\ninsert 1/1 0000\n\nstats";
+    let text = b"# index\n\ncreate hnsw hamming 4\ninsert 1/1 0000\n\nsearch 0000 limit 1\nstats";
     let numbers = command_lines(rt.alloc(), text)?;
-    assert_eq!(rt; numbers.as_slice(), [3, 4, 6].as_slice());
+    assert_eq!(rt; numbers.as_slice(), [3, 4, 6, 7].as_slice());
     let commands = read_script(rt.alloc(), text, Form::Rowless)?;
-    assert_eq!(rt; commands.len(), 3);
-    for line in [b"row 1/1 0".as_slice(), b"query 0", b"search 0 limit 1"] {
+    assert_eq!(rt; commands.len(), 4);
+    for line in [b"row 1/1 0".as_slice(), b"query 0"] {
         assert_eq!(rt; refused(rt.alloc(), Form::Rowless, line)?, 1);
     }
     Ok(())

@@ -12,6 +12,7 @@ use page_log::Log;
 use page_sets::PageList;
 use std::alloc::Global;
 use vec_history::Act;
+use vec_names::Params;
 use vec_outside::Disks;
 use vec_steps::{Ask, StepFault, Told};
 
@@ -105,6 +106,13 @@ impl<D: Disks> Board<D> {
         ensures { result.now ≡ acts_of self.now.core }
     {
         self.core.acts()
+    }
+
+    /// The parameters of the index.
+    pub fn params(&self) -> Params
+        ensures { result ≡ self.now.core.params }
+    {
+        self.core.params
     }
 
     /// The number of the epoch.

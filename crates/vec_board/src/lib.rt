@@ -27,12 +27,3 @@ pub use board_core::Core;
 pub use history::History;
 pub use lone_desk::LoneDesk;
 pub use summary::Summary;
-
-#[cfg(test)]
-mod board_tests;
-#[cfg(test)]
-mod change_tests;
-#[cfg(test)]
-mod tests;
-#[cfg(test)]
-mod turn_tests;

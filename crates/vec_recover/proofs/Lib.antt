@@ -9,3 +9,4 @@ pub mod Rebuilt
 pub mod Opened
 pub mod Created
 pub mod CreatedIndex
+pub mod Durable

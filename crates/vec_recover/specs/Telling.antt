@@ -1,8 +1,10 @@
 -- What one reading of an index tells of what its bytes recover to, and why it gave up.
-use Rattle.std.specs.Prelude.{◌≡◌, ℕ, ◌+◌, ◌%◌, ◌^◌, ◌<◌, ◌↔◌, Contains, Option, Some, None, Result, Ok, Err, ⊤, length}
+use Rattle.std.specs.Prelude.{◌≡◌, ℕ, ◌+◌, ◌%◌, ◌^◌, ◌<◌, ◌≤◌, ◌↔◌, Contains, Option, Some, None, Result, Ok, Err, ⊤, length}
 use Rattle.vec_outside.specs.Causes.{Rose}
 use Rattle.vec_outside.specs.Disk.{Image}
-use Rattle.page_log.specs.Opening.{ReadsAs}
+use Rattle.page_log.specs.BothLogs.{other_log}
+use Rattle.page_log.specs.Opening.{Epoch, ReadsAs}
+use Rattle.page_log.specs.declared.limits.TheConstants.{HEAD}
 use Rattle.page_log.specs.declared.opening_fault.OpenFault.{OpenFault}
 use Rattle.page_log.specs.declared.opening_fault.OpenFault.TheVariants as faults
 use Rattle.vec_recover.specs.declared.reading.ReadIndex.{ReadIndex}
@@ -31,3 +33,8 @@ IsOpenFault before now faults.Memory = ⊤
 IsOpenFault before now (faults.Disk count) = (count ≡ now) × Rose before now
 IsOpenFault before now (faults.NotIndex area at) = ⊤
 IsOpenFault before now (faults.BadEvent area at) = ⊤
+
+-- Behind the epoch's batches stands one more byte, a closed seal; and the other area has a whole header, which does not count.
+pub record HasSealBehind (image : Image) (epoch : Epoch) : Type 0 where
+  pub behind : epoch.end < length (image epoch.area)
+  pub other : HEAD ≤ length (image (other_log epoch.area))

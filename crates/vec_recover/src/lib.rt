@@ -11,11 +11,13 @@ mod law;
 mod reading;
 mod redoing;
 mod replaying;
+mod syncing;
 mod unwritten;
 
 pub use creating::create;
 pub use law::law_created;
 pub use reading::{ReadIndex, read_index};
+pub use syncing::read_durable;
 
 #[cfg(test)]
 mod tests;

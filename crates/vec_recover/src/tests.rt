@@ -5,7 +5,7 @@ use page_bytes::{Page, PageKind};
 use page_log::OpenFault;
 use std::alloc::{AllocError, Global};
 use std::test::*;
-use vec_outside::{Area, MemDisks};
+use vec_outside::{Area, Choice, Disks, MemDisks, Outage};
 
 /// A header: epoch 1, no events before it, one block, one image, an open seal.
 const HEAD: [u8; 40] = [
@@ -179,6 +179,33 @@ fn created_and_read(rt: HostRuntime) -> Result<(), AllocError> {
     assert_eq!(rt;
         told_of(read_index(alloc, &mut disks)),
         Told::Index(2, 1, 0, 0, 1)
+    );
+    Ok(())
+}
+
+/// What a reading tells of a log that was written and not made durable, and what one tells of the areas that a crash then leaves.
+fn before_and_after(alloc: Global, durable: bool) -> Result<(Told, Told), Outage> {
+    let log = worked(alloc, 0, 0x56, 8_302)?;
+    let mut disks = MemDisks::empty(alloc)?;
+    disks.write_at(Area::Log0, 0, log.as_slice())?;
+    let read = if durable {
+        read_durable(alloc, &mut disks)
+    } else {
+        read_index(alloc, &mut disks)
+    };
+    let before = told_of(read);
+    let mut left = disks.crash(Choice::Lost)?;
+    Ok((before, told_of(read_index(alloc, &mut left))))
+}
+
+/// What was read from areas that were made durable is there after any crash; else it may be lost.
+#[test]
+fn what_was_read_is_durable(rt: HostRuntime) -> Result<(), Outage> {
+    let index = Told::Index(2, 2, 2, 70, 2);
+    assert_eq!(rt; before_and_after(rt.alloc(), true)?, (index, index));
+    assert_eq!(rt;
+        before_and_after(rt.alloc(), false)?,
+        (index, Told::Nothing)
     );
     Ok(())
 }

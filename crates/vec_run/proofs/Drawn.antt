@@ -33,7 +33,7 @@ can_one g (Draw seed) is = tt
 can_one g (Create ops bits m ef round) is = tt
 can_one g (Insert id bits None) is = tt
 can_one g (Insert id bits (Some word)) is = tt
-can_one g (Search bits limit ef further) is = absurd is
+can_one g (Search bits limit ef further) is = tt
 can_one g Stats is = tt
 
 can_all : (g : Lcg) (commands : List Command) → AllByRecursion (IsOf form.Rowless) commands → AllByRecursion CanBeDone (drawn_all g commands)

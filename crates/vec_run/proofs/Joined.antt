@@ -1,7 +1,7 @@
 -- The commands before a create, the create, and those behind it.
-use Rattle.std.proofs.Common.{◌≡◌, ℕ, ◌+◌, ◌<◌, ◌≤◌, List, [], ◌∷◌, ◌++◌, take, drop, length, get_or, slice_get, zero, suc, IfErr, OnOk, Option, None, Some, Result, Ok, Err, inl, inr, refl, sym, ap, subst, ◌∙◌, append-nil, append_assoc, length-append, arith}
+use Rattle.std.proofs.Common.{◌≡◌, ℕ, ◌+◌, ◌<◌, ◌≤◌, List, [], ◌∷◌, ◌++◌, take, drop, length, get_or, slice_get, zero, suc, IfErr, OnOk, Option, None, Some, Result, Ok, Err, inl, inr, refl, sym, ap, subst, ◌∙◌, append_assoc, arith}
 use Rattle.std.proofs.Math.Seq.{take-add}
-use Rattle.std.proofs.lemmas.List.{take_more, take_all, drop_more, get_or-drop, length-drop}
+use Rattle.std.proofs.lemmas.List.{take_more, take_all, get_or-drop, length-drop}
 use Rattle.std.proofs.lemmas.Option.{get_or_from_slice_get, slice_get-get_or, slice_get_within}
 use Rattle.std.proofs.lemmas.Grind.{flat_map-append}
 use Rattle.vec_names.specs.declared.params.Kind.TheVariants.{Hnsw}
@@ -17,7 +17,6 @@ use Rattle.script_words.specs.Replies.{reply_text}
 use Rattle.empty_index.specs.Empty.{empty_graph}
 use Rattle.script_jobs.specs.declared.job.Job.{Job}
 use Rattle.script_jobs.specs.Jobs.{AreDone, IsJob, text_of}
-use Rattle.vec_run.specs.declared.audit.Room.{Room}
 use Rattle.vec_run.specs.declared.commands.Made.{Made}
 use Rattle.vec_run.specs.declared.commands.Ran.{Ran}
 use Rattle.vec_run.specs.declared.done.Done.{Done}

@@ -1,5 +1,5 @@
 -- What was done of a script at each end of its run.
-use Rattle.std.proofs.Common.{◌≡◌, ℕ, ◌≤◌, ◌^◌, List, [], ◌++◌, length, take, Option, Some, None, Result, Ok, Err, IfErr, OnOk, OnErr, inl, inr, refl, sym, subst, append-nil, arith}
+use Rattle.std.proofs.Common.{◌≡◌, ℕ, ◌≤◌, ◌^◌, List, [], length, take, Option, Result, Ok, Err, IfErr, OnOk, OnErr, inr, refl, sym, subst, append-nil, arith}
 use Rattle.std.proofs.lemmas.List.{take_all}
 use Rattle.std.specs.Io.KnownBytes.{Appends, Consumes, IsAtEnd}
 use Rattle.vec_outside.specs.declared.outage.Outage.{Outage}
@@ -9,7 +9,6 @@ use Rattle.script_words.specs.declared.form.Form.{Form}
 use Rattle.script_words.specs.declared.reply.Reply.{Reply}
 use Rattle.script_words.specs.Grammar.{IsFirstOutside}
 use Rattle.script_jobs.specs.declared.job.Job.{Job}
-use Rattle.script_jobs.specs.Jobs.{text_of}
 use Rattle.vec_history.specs.declared.event.Act.{Act}
 use Rattle.vec_run.specs.declared.audit.Audit.{Audit}
 use Rattle.vec_run.specs.declared.audit.Room.{Room}
@@ -24,7 +23,7 @@ use Rattle.vec_run.specs.declared.top.Verb.TheVariants.{Alone}
 use Rattle.vec_run.specs.Alone.{AreRun}
 use Rattle.vec_run.specs.Exact.{AppendsFront}
 use Rattle.vec_run.specs.Refusals.{IsSourceRefusal, IsTextRefusal}
-use Rattle.vec_run.specs.Runs.{IsWhy, RunsFront, RunsScript, RunsTo, StopsTo}
+use Rattle.vec_run.specs.Runs.{RunsFront, RunsScript, RunsTo, StopsTo}
 use Rattle.vec_run.specs.Scripts.{IsRunEnd, RanPart, ReadsScript, run_end}
 use Rattle.vec_run.specs.Verbs.{IsEndOf}
 use Rattle.vec_run.proofs.Sources.{outside_source}

@@ -1,15 +1,13 @@
 -- The commands of a script, before an index stands and over it.
-use Rattle.std.proofs.Common.{◌≡◌, ℕ, ◌+◌, ◌<◌, List, [], ◌∷◌, ◌++◌, take, slice_get, Option, None, Some, inl, inr, refl, sym, ap, subst, ◌∙◌, append-nil, append_assoc}
+use Rattle.std.proofs.Common.{◌≡◌, ℕ, ◌+◌, List, [], ◌∷◌, ◌++◌, take, slice_get, Some, refl, sym, ap, subst, ◌∙◌, append-nil, append_assoc}
 use Rattle.std.proofs.lemmas.Grind.{flat_map-append}
 use Rattle.vec_names.specs.declared.params.Params.{Params}
 use Rattle.vec_history.specs.declared.event.Act.{Act}
 use Rattle.vec_steps.specs.declared.fault.OpFault.{OpFault}
-use Rattle.vec_steps.specs.declared.fault.OpFault.TheVariants as fault
 use Rattle.vec_steps.specs.Index.{Index, OfNodes}
 use Rattle.vec_steps.specs.Desks.{Desk}
 use Rattle.script_words.specs.declared.command.Command.{Command}
 use Rattle.script_words.specs.declared.reply.Reply.{Reply}
-use Rattle.script_words.specs.declared.reply.Reply.TheVariants.{Created}
 use Rattle.script_words.specs.Replies.{reply_text}
 use Rattle.empty_index.specs.Empty.{empty_graph}
 use Rattle.script_jobs.specs.declared.job.Job.{Job}
@@ -21,7 +19,7 @@ use Rattle.vec_run.specs.declared.audit.Room.{Room}
 use Rattle.vec_run.specs.declared.done.Done.{Done}
 use Rattle.vec_run.specs.declared.indexed.Stop.{Stop}
 use Rattle.vec_run.specs.declared.indexed.Stop.TheVariants as stop
-use Rattle.vec_run.specs.Alone.{AreAnswered, AreRun, IsAnswered, IsMaking, IsNew, lone}
+use Rattle.vec_run.specs.Alone.{AreAnswered, IsAnswered, IsNew, lone}
 use Rattle.vec_run.specs.Runs.{AnswersTo, FailsFor, IsWhy, RunsAll, RunsOne, StopsAt, StopsIn, WantsNext, stop_of}
 
 -- the text of one reply more

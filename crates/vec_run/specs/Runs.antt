@@ -1,5 +1,5 @@
 -- What the parts of a run of `alone` have done.
-use Rattle.std.specs.Prelude.{◌≡◌, ℕ, ⊤, List, [], ◌∷◌, ◌++◌, length, take, slice_get, Option, Some, None}
+use Rattle.std.specs.Prelude.{◌≡◌, ℕ, ⊤, List, [], ◌∷◌, ◌++◌, take, slice_get, Option, Some, None}
 use Rattle.vec_names.specs.declared.params.Params.{Params}
 use Rattle.vec_history.specs.declared.event.Act.{Act}
 use Rattle.vec_steps.specs.declared.fault.OpFault.{OpFault}

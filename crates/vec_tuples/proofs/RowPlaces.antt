@@ -1,13 +1,16 @@
 -- The places of an element's rows are read as they are spelled, one after the other.
 use Rattle.std.specs.Prelude.{⊤}
-use Rattle.std.proofs.Common.{◌≡◌, ℕ, zero, suc, ◌+◌, ◌*◌, ◌-◌, ◌<◌, ◌≤◌, Bool, true, false, List, [], ◌∷◌, ◌++◌, length, take, drop, Option, Some, None, refl, sym, ap, ◌∙◌, append_assoc, add-one, arith}
+use Rattle.std.proofs.Common.{◌≡◌, ℕ, zero, suc, ◌+◌, ◌*◌, ◌-◌, ◌<◌, ◌≤◌, Bool, true, false, List, [], ◌∷◌, ◌++◌, length, take, drop, Option, Some, None, ◌==◌, ◌&&◌, nat_eq, refl, sym, ap, ap₂, ◌∙◌, append_assoc, add-one, take_at, arith}
 use Rattle.std.specs.Prelude.{slice_get}
+use Rattle.std.specs.Cmp.Lexicographic.{pointwise}
+use Rattle.std.proofs.lemmas.Bool.{eqb-true}
 use Rattle.std.specs.Option.{option_to_list, is_none}
 use Rattle.std.proofs.lemmas.List.{length-append, append-nil, drop_all}
 use Rattle.vec_names.specs.declared.heap_id.HeapId.{HeapId}
-use Rattle.vec_names.specs.Pointer.{heap_id_option_bytes}
+use Rattle.vec_names.specs.Pointer.{heap_id_option_bytes, pointer_bytes}
 use Rattle.vec_tuples.specs.Spelling.{rows_bytes, IsEmptyIf}
 use Rattle.vec_tuples.specs.Reading.{row_of, rows}
+use Rattle.vec_tuples.specs.declared.rows.TheConstants.{NO_ROWS}
 use Rattle.byte_fields.proofs.FieldLaws.{IsField, next_law, no_bytes_law, wider}
 use Rattle.vec_tuples.proofs.EachField.{optional_row_field, no_row_field, length-heap_id_option_bytes}
 use Rattle.vec_tuples.proofs.SlotPlaces.{six_more}
@@ -98,6 +101,45 @@ unfolding rows_bytes
 length-rows_bytes zero ids = refl
 length-rows_bytes (suc n) [] = length-append (heap_id_option_bytes None) (rows_bytes n []) ∙ omega (arith, length-heap_id_option_bytes None, length-rows_bytes n [])
 length-rows_bytes (suc n) (id ∷ ids) = length-append (heap_id_option_bytes (Some id)) (rows_bytes n ids) ∙ omega (arith, length-heap_id_option_bytes (Some id), length-rows_bytes n ids)
+
+-- ---- places without a row, looked at together
+
+both_true : (x y : ℕ) (xs ys : List ℕ) (b : Bool) → (x == y) ≡ b → (pointwise nat_eq xs ys ≡ true → xs ≡ ys) → (b && pointwise nat_eq xs ys) ≡ true
+    → x ∷ xs ≡ y ∷ ys
+both_true x y xs ys true same rest is = ap₂ (λ (z : ℕ) (zs : List ℕ). z ∷ zs) (eqb-true x y same) (rest is)
+both_true x y xs ys false same rest is = absurd cc
+
+pub same_bytes : (xs ys : List ℕ) → pointwise nat_eq xs ys ≡ true → xs ≡ ys
+same_bytes [] [] is = refl
+same_bytes [] (y ∷ ys) is = absurd cc
+same_bytes (x ∷ xs) [] is = absurd cc
+same_bytes (x ∷ xs) (y ∷ ys) is = both_true x y xs ys (x == y) refl (same_bytes xs ys) is
+
+unary : (k : ℕ) → 0 + k ≡ k
+unary k = omega arith
+
+none_parts : (n k : ℕ) → rows_bytes (n + k) [] ≡ rows_bytes n [] ++ rows_bytes k []
+unfolding rows_bytes
+none_parts zero k = ap (λ n. rows_bytes n []) (unary k)
+none_parts (suc n) k =
+    let more : suc n + k ≡ suc (n + k) = omega arith in
+    ap (λ m. rows_bytes m []) more ∙ ap (λ l. heap_id_option_bytes None ++ l) (none_parts n k) ∙ sym (append_assoc (heap_id_option_bytes None) (rows_bytes n []) (rows_bytes k []))
+
+pub ten_none : NO_ROWS ≡ rows_bytes 10 []
+unfolding rows_bytes pointer_bytes
+ten_none = refl
+
+none_taken : (n : ℕ) (ten : List ℕ) → n ≤ 10 → ten ≡ rows_bytes 10 [] → take (6 * n) ten ≡ rows_bytes n []
+none_taken n ten le is =
+    let ten_is : 10 ≡ n + (10 - n) = omega arith in
+    let parts : ten ≡ rows_bytes n [] ++ rows_bytes (10 - n) [] = is ∙ ap (λ k. rows_bytes k []) ten_is ∙ none_parts n (10 - n) in
+    ap (λ l. take (6 * n) l) parts ∙ take_at (rows_bytes n []) (rows_bytes (10 - n) []) (6 * n) (length-rows_bytes n [])
+
+pub none_behind : (n : ℕ) (ten bytes front rest : List ℕ) → n ≤ 10 → ten ≡ rows_bytes 10 [] → bytes ≡ front ++ rest → front ≡ take (6 * n) ten
+    → rows true n bytes ≡ Got [] rest
+none_behind n ten bytes front rest le is parts same =
+    let b : bytes ≡ rows_bytes n [] ++ rest = parts ∙ ap (λ l. l ++ rest) (same ∙ none_taken n ten le is) in
+    ap (λ l. rows true n l) b ∙ (rows_field n true).again [] rest (omega arith, refl)
 
 rows_more : (at : ℕ) (ids : List HeapId) → rows_bytes (suc at) ids ≡ rows_bytes at ids ++ heap_id_option_bytes (slice_get ids at)
 unfolding rows_bytes

@@ -1,13 +1,14 @@
 //! The ten places of an element's rows, read from the front of the bytes and written over bytes.
 #![tactic(auto, unfolding(crate::specs::Reading::row_of, crate::specs::Reading::optional_row, byte_fields::specs::Reading::field, crate::specs::Reading::no_row, byte_fields::specs::Reading::none_alone))]
 
-ghost use Rattle.std.specs.Prelude.{◌≡◌, ◌≤◌, ◌<◌, ◌++◌, length, slice_get};
+ghost use Rattle.std.specs.Prelude.{◌≡◌, ◌≤◌, ◌<◌, ◌++◌, [], IfSome, true, length, slice_get};
 ghost use Rattle.std.specs.Option.{option_to_list, is_none};
 ghost use Rattle.vec_names.specs.Pointer.{heap_id_option_bytes};
 ghost use Rattle.arrayvec.specs.ArrayVec.{array_vec_len};
 ghost use Rattle.vec_tuples.specs.Spelling.{rows_bytes};
 ghost use Rattle.vec_tuples.specs.Reading.{optional_row, no_row, row_of, rows};
 ghost use Rattle.byte_fields.specs.Answers.{Gives};
+ghost use Rattle.byte_fields.specs.Reading.{Got};
 
 use crate::six_bytes::put_six;
 use arrayvec::ArrayVec;
@@ -21,12 +22,35 @@ pub fn rows(closed: bool, bytes: &[u8]) -> Result<(ArrayVec<HeapId, 10>, &[u8]),
     let mut ids = ArrayVec::<HeapId, 10>::new();
     let mut shut = closed;
     let mut rest = bytes;
-    'places: for _ in 0..10u8 {
+    'places: for at in 0..10usize {
+        // Most elements have one row: the places behind it are looked at together.
+        if shut && let Some(behind) = behind_none(10 - at, rest) {
+            return Ok((ids, behind));
+        }
         let (row, after) = row_of(shut, rest)?;
         shut = keep(&mut ids, row);
         rest = after;
     }
     Ok((ids, rest))
+}
+
+/// Ten places that have no row.
+const NO_ROWS: [u8; 60] = [
+    255, 255, 255, 255, 0, 0, 255, 255, 255, 255, 0, 0, 255, 255, 255, 255, 0, 0, 255, 255, 255,
+    255, 0, 0, 255, 255, 255, 255, 0, 0, 255, 255, 255, 255, 0, 0, 255, 255, 255, 255, 0, 0, 255,
+    255, 255, 255, 0, 0, 255, 255, 255, 255, 0, 0, 255, 255, 255, 255, 0, 0,
+];
+
+/// What stands behind so many places, where they are spelled to have no row.
+fn behind_none(places: usize, bytes: &[u8]) -> Option<&[u8]>
+    requires { places ≤ 10 }
+    ensures { IfSome result (λ rest. rows true places bytes.now ≡ Got [] rest.now) }
+{
+    let (front, rest) = bytes.split_at_checked(6 * places)?;
+    if front == &NO_ROWS[..6 * places] {
+        return Some(rest);
+    }
+    None
 }
 
 /// Puts a row, where there is one, behind the others, and tells whether there is none.

@@ -3,13 +3,12 @@ use Rattle.vec_names.specs.Levels.{level_of}
 use Rattle.vec_history.specs.declared.event.Act.{Act}
 use Rattle.vec_history.specs.declared.gate.Gate.TheVariants.{Update}
 use Rattle.vec_steps.specs.declared.fault.OpFault.{OpFault}
-use Rattle.vec_steps.specs.declared.fault.OpFault.TheVariants.{Dimensions}
 use Rattle.vec_steps.specs.Calls.{HoldsNone}
 use Rattle.hnsw_insert.specs.Whole.{FailsSo}
 use Rattle.script_words.specs.declared.reply.Reply.{Reply}
 use Rattle.script_jobs.specs.Jobs.{InsertsRow}
 use Rattle.script_jobs.proofs.Replied.{inserts_row}
-use Rattle.script_jobs.proofs.UpdateAlone.{holds_none}
+use Rattle.script_jobs.proofs.NoGate.{holds_none}
 use Rattle.script_jobs.proofs.rows.insert_row.Goals as goal
 
 pub insert-requires-clause-free : goal.insert-requires-clause-free
@@ -24,8 +23,7 @@ returns-in-Ok-clause-ok g c =
     (inserts_row c.args.id c.args.bits.now c.args.word c.in-Ok.inserted c.in-Ok.ensures.fits c.in-Ok.ensures.ok))
 
 pub returns-in-Ok-clause-gates : goal.returns-in-Ok-clause-gates
-returns-in-Ok-clause-gates g c =
-    holds_none c.args.id c.args.bits.now c.args.word c.in-Ok.inserted c.in-Ok.ensures.ok c.in-Ok.ensures.free c.requires.gates
+returns-in-Ok-clause-gates g c = holds_none c.requires.gates c.in-Ok.ensures.others c.in-Ok.ensures.free
 
 pub returns-in-Err-Dimensions-clause-gates : goal.returns-in-Err-Dimensions-clause-gates
 returns-in-Err-Dimensions-clause-gates g c =

@@ -1,7 +1,6 @@
-use Rattle.std.proofs.Common.{◌≡◌, ◌∙◌, List, ap, refl, sym}
+use Rattle.std.proofs.Common.{◌∙◌, List, ap, sym}
 use Rattle.vec_history.specs.declared.event.Act.{Act}
 use Rattle.vec_graph.specs.Effect.{after}
-use Rattle.vec_steps.specs.Desks.{Desk}
 use Rattle.vec_steps.specs.Index.{OfNodes}
 use Rattle.vec_steps.proofs.Following.{goes_then}
 use Rattle.hnsw_insert.proofs.Stopped.{handed}

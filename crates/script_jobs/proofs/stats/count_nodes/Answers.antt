@@ -1,6 +1,5 @@
-use Rattle.std.proofs.Common.{◌∙◌, ap, refl, sym}
+use Rattle.std.proofs.Common.{◌∙◌, ap}
 use Rattle.vec_steps.specs.Faults.{op_fault}
-use Rattle.vec_steps.specs.Desks.{Desk}
 use Rattle.vec_steps.specs.Index.{Index}
 use Rattle.vec_steps.proofs.Following.{does_so_over, goes_over}
 use Rattle.layer_search.proofs.Looks.{ended_first, ended_over, fails}

@@ -1,6 +1,5 @@
-use Rattle.std.proofs.Common.{◌≡◌, ◌+◌, ◌<◌, ◌≤◌, ◌∙◌, List, length, map, ap, refl, sym, subst, arith}
+use Rattle.std.proofs.Common.{◌≡◌, ◌+◌, ◌≤◌, ◌∙◌, List, map, ap, refl, sym, subst, arith}
 use Rattle.vec_history.specs.declared.event.Act.{Act}
-use Rattle.vec_graph.specs.declared.graph.Graph.{Graph}
 use Rattle.vec_graph.specs.Effect.{after}
 use Rattle.vec_graph.proofs.Shaping.{shaped_after}
 use Rattle.graph_search.specs.Reads.{nodes_on}
@@ -11,7 +10,7 @@ use Rattle.vec_steps.specs.Index.{Index, OfNodes}
 use Rattle.vec_steps.proofs.Following.{goes_nowhere, goes_then}
 use Rattle.hnsw_insert.specs.Over.{OverGraphs}
 use Rattle.hnsw_insert.proofs.Stopped.{handed}
-use Rattle.script_jobs.specs.Counting.{HasBlocks, counts_of}
+use Rattle.script_jobs.specs.Counting.{HasBlocks}
 use Rattle.script_jobs.proofs.Looked.{between, ended_memory, ended_then, looks_none, looks_then, page_there}
 use Rattle.script_jobs.proofs.Sums.{CountedBelow, all_counted, blocks_kept, none_counted, page_counted}
 use Rattle.script_jobs.proofs.stats.count_on.Goals as goal

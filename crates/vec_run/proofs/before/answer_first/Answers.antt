@@ -1,4 +1,4 @@
-use Rattle.std.proofs.Common.{◌∙◌, ap, sym, subst, get_or, ◌<◌, ◌∷◌, [], ◌++◌, take, List}
+use Rattle.std.proofs.Common.{◌∙◌, ap, sym, subst, get_or, ◌<◌, ◌∷◌, [], ◌++◌, take}
 use Rattle.std.proofs.lemmas.List.{take_more}
 use Rattle.script_words.specs.declared.command.Command.{Command}
 use Rattle.vec_run.specs.declared.before.First.{First}

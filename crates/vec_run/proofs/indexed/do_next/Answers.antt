@@ -10,6 +10,6 @@ returns-in-Err-clause-err g c =
 pub returns-clause-err : goal.returns-clause-err
 returns-clause-err g c =
     let S = g.S.Steps in
-    let kept = c.in-Err-complete.ensures in
-    stops_full (S.stands c.args.steps.now) (S.desk c.args.steps.now) (S.seen c.args.steps.now) (S.seen c.one.new.steps) c.args.line c.args.command.now
-    c.in-Ok.both.0 c.in-Ok.both.1 c.args.done.now c.complete.new.self c.in-Ok.ensures.ok kept.kept_text kept.kept_jobs
+    stops_full (S.stands c.args.steps.now) (S.desk c.args.steps.now) (S.seen c.args.steps.now) (S.seen c.one.new.steps) c.args.line
+    c.args.command.now c.in-Ok.both.0 c.in-Ok.both.1 c.args.done.now c.complete.new.self c.in-Ok.ensures.ok
+    c.in-Err-complete.ensures.kept_text c.in-Err-complete.ensures.kept_jobs

@@ -1,4 +1,4 @@
-use Rattle.std.proofs.Common.{◌≤◌, ℕ, length, sym, subst, arith}
+use Rattle.std.proofs.Common.{◌≤◌, length, sym, subst, arith}
 use Rattle.vec_outside.specs.Areas.{empty_image}
 use Rattle.vec_outside.specs.Disk.{Image}
 use Rattle.vec_outside.specs.declared.disks.Area.{Area}

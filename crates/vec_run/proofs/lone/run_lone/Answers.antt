@@ -1,4 +1,4 @@
-use Rattle.std.proofs.Common.{◌∙◌, ap, sym, subst, List, [], ◌≡◌}
+use Rattle.std.proofs.Common.{◌∙◌, ap, sym, subst, List}
 use Rattle.std.proofs.lemmas.Result.{on_ok_weaker, IfErr-weaker}
 use Rattle.vec_history.specs.declared.event.Act.{Act}
 use Rattle.vec_steps.specs.Index.{OfNodes, IsLegal}

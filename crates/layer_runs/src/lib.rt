@@ -1,0 +1,5 @@
+//! Searches of a layer over a small desk that changes nothing: their tests.
+#![tactic(auto)]
+
+#[cfg(test)]
+mod search_tests;

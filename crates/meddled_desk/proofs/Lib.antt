@@ -1,0 +1,4 @@
+mod PhaseHeld
+mod Others
+mod Ends
+mod Lifting
