@@ -227,7 +227,7 @@ fn ends_and_their_texts(rt: HostRuntime) -> Result<(), Fail> {
 }
 
 // Scripts of one index, and what is written of them.
-const ALONE: [(&[u8], &[u8]); 10] = [
+const ALONE: [(&[u8], &[u8]); 7] = [
     (b"", b""),
     // Where no index stands.
     (
@@ -239,25 +239,15 @@ const ALONE: [(&[u8], &[u8]); 10] = [
         b"create hnsw hamming 4 m 16 ef 31\ncreate hnsw hamming 4 m 16 ef 32\n\ncreate hnsw hamming 4\n",
         b"refused params\ncreated blocks 1 entries 0\nrefused exists\n",
     ),
-    // Rows, one of another length, and the counts.
+    // A row, and the counts.
     (
-        b"create hnsw hamming 4 m 2 ef 4\ninsert 1/1 0000 18446744073709551615\ninsert 1/9 00000\nstats",
-        b"created blocks 1 entries 0\nput 1/1 level 0 version 1\nrefused dimensions\nstats blocks 2 nodes 1 live 1 doomed 0 deleted 0 entries 1\n",
+        b"create hnsw hamming 4 m 2 ef 4\ninsert 1/1 0000 18446744073709551615\nstats",
+        b"created blocks 1 entries 0\nput 1/1 level 0 version 1\nstats blocks 2 nodes 1 live 1 doomed 0 deleted 0 entries 1\n",
     ),
-    // An equal value joins its node.
+    // An equal value joins its node; one of another length is refused.
     (
-        b"create hnsw jaccard 4 m 2 ef 4\ninsert 1/1 0101 18446744073709551615\ninsert 1/2 0101\n",
-        b"created blocks 1 entries 0\nput 1/1 level 0 version 1\njoined 1/1\n",
-    ),
-    // Searches without a row, and where no index stands.
-    (
-        b"search 0000 limit 3\ncreate hnsw hamming 4 m 2 ef 4\nsearch 0000 limit 3\nsearch 00000 limit 3\nsearch 0000 limit 3 ef 1001\n",
-        b"refused no-index\ncreated blocks 1 entries 0\nhits 0\nrefused dimensions\nrefused params\n",
-    ),
-    // Distances of Jaccard.
-    (
-        b"create hnsw jaccard 4 m 2 ef 4\ninsert 1/1 1100 18446744073709551615\nsearch 1010 limit 5\ninsert 1/2 0000 18446744073709551615\nsearch 0000 limit 5\n",
-        b"created blocks 1 entries 0\nput 1/1 level 0 version 1\nhit 1/1 2/3\nhits 1\nput 1/3 level 0 version 1\nhit 1/1 1/1\nhit 1/2 1/1\nhits 2\n",
+        b"create hnsw jaccard 4 m 2 ef 4\ninsert 1/1 0101 18446744073709551615\ninsert 1/2 0101\ninsert 1/3 00000",
+        b"created blocks 1 entries 0\nput 1/1 level 0 version 1\njoined 1/1\nrefused dimensions\n",
     ),
     // A node takes ten rows, and a search answers them in their order.
     (
@@ -268,11 +258,6 @@ const ALONE: [(&[u8], &[u8]); 10] = [
     (
         b"create hnsw jaccard 4 m 2 ef 4\ninsert 1/1 0000 18446744073709551615\ninsert 1/2 0000 18446744073709551615\ninsert 1/3 0000 18446744073709551615\ninsert 1/4 0000 18446744073709551615\ninsert 1/5 0000 18446744073709551615\ninsert 1/6 0000 18446744073709551615\ninsert 1/7 0000 18446744073709551615\ninsert 1/8 0000 18446744073709551615\ninsert 1/9 0000 18446744073709551615\ninsert 1/10 0000 18446744073709551615\ninsert 1/11 0000 18446744073709551615\nsearch 0000 limit 20\n",
         b"created blocks 1 entries 0\nput 1/1 level 0 version 1\njoined 1/1\njoined 1/1\njoined 1/1\njoined 1/1\njoined 1/1\njoined 1/1\njoined 1/1\njoined 1/1\njoined 1/1\nput 1/3 level 0 version 1\nhit 1/1 1/1\nhit 1/2 1/1\nhit 1/3 1/1\nhit 1/4 1/1\nhit 1/5 1/1\nhit 1/6 1/1\nhit 1/7 1/1\nhit 1/8 1/1\nhit 1/9 1/1\nhit 1/10 1/1\nhit 1/11 1/1\nhits 11\n",
-    ),
-    // The nearest rows first.
-    (
-        b"create hnsw hamming 4 m 2 ef 4\ninsert 1/1 0000 18446744073709551615\ninsert 1/2 0011 18446744073709551615\ninsert 1/3 0111 18446744073709551615\nsearch 0001 limit 10 ef 4\n",
-        b"created blocks 1 entries 0\nput 1/1 level 0 version 1\nput 1/3 level 0 version 1\nput 1/5 level 0 version 1\nhit 1/1 1\nhit 1/2 1\nhit 1/3 2\nhits 3\n",
     ),
 ];
 
@@ -299,6 +284,87 @@ fn refused_lines_of_one_index(rt: HostRuntime) -> Result<(), Fail> {
         assert_eq!(rt; status, 3);
         assert_eq!(rt; line, 2);
         assert!(rt; text.is_empty());
+    }
+    Ok(())
+}
+
+// These lines, each with its line feed.
+fn joined(alloc: Global, lines: &[&str]) -> Result<Vec<u8>, AllocError> {
+    let mut text = Vec::new(alloc);
+    for line in lines {
+        text.extend_from_slice(line.as_bytes())?;
+        text.push(b'\n')?;
+    }
+    Ok(text)
+}
+
+// Lines of scripts with searches, and those that are written of them. The words give level 0.
+const SEARCHED: [(&[&str], &[&str]); 4] = [
+    (&["search 0000 limit 3"], &["refused no-index"]),
+    // No row, a value of another length, and a number out of its range.
+    (
+        &[
+            "create hnsw hamming 4 m 2 ef 4",
+            "search 0000 limit 3",
+            "search 00000 limit 3",
+            "search 0000 limit 3 ef 0",
+        ],
+        &[
+            "created blocks 1 entries 0",
+            "hits 0",
+            "refused dimensions",
+            "refused params",
+        ],
+    ),
+    // Fractions; two zero values are as far apart as can be.
+    (
+        &[
+            "create hnsw jaccard 4 m 2 ef 4",
+            "insert 1/1 1100 18446744073709551615",
+            "search 1010 limit 5",
+            "insert 1/2 0000 18446744073709551615",
+            "search 0000 limit 5",
+        ],
+        &[
+            "created blocks 1 entries 0",
+            "put 1/1 level 0 version 1",
+            "hit 1/1 2/3",
+            "hits 1",
+            "put 1/3 level 0 version 1",
+            "hit 1/1 1/1",
+            "hit 1/2 1/1",
+            "hits 2",
+        ],
+    ),
+    // Three rows, all of which are found.
+    (
+        &[
+            "create hnsw hamming 4 m 2 ef 4",
+            "insert 1/1 0000 18446744073709551615",
+            "insert 1/2 0011 18446744073709551615",
+            "insert 1/3 0111 18446744073709551615",
+            "search 0001 limit 10 ef 4",
+        ],
+        &[
+            "created blocks 1 entries 0",
+            "put 1/1 level 0 version 1",
+            "put 1/3 level 0 version 1",
+            "put 1/5 level 0 version 1",
+            "hit 1/1 1",
+            "hit 1/2 1",
+            "hit 1/3 2",
+            "hits 3",
+        ],
+    ),
+];
+
+#[test]
+fn searches_of_one_index(rt: HostRuntime) -> Result<(), Fail> {
+    let alloc = rt.alloc();
+    for (script, want) in &SEARCHED {
+        let (status, _, text) = ran(&rt, alloc, "alone", &joined(alloc, script)?, &[], &[])?;
+        assert_eq!(rt; status, 0);
+        assert_eq!(rt; text.as_slice(), joined(alloc, want)?.as_slice());
     }
     Ok(())
 }
