@@ -19,11 +19,11 @@ grep -v '^search' "$work/all" > "$work/inserts"
 rustc --edition 2021 -O -o "$work/plain" bench/plain_hnsw.rs
 ./vec_run alone < /dev/null
 taken() {
-    /usr/bin/time -f '%e %M' -o "$work/taken" ./vec_run alone < "$1" > "$2"
+    /usr/bin/time -f '%U %M' -o "$work/taken" ./vec_run alone < "$1" > "$2"
     cat "$work/taken"
 }
 read -r making memory < <(taken "$work/inserts" "$work/first")
 read -r whole most < <(taken "$work/all" "$work/replies")
-echo "alone: $rows inserts in $making s, $((memory / 1024)) MB; $searches searches in $(echo "$whole - $making" | bc) s, $((most / 1024)) MB"
+echo "alone: $rows inserts in $making s of processor, $((memory / 1024)) MB; $searches searches in $(echo "$whole - $making" | bc) s, $((most / 1024)) MB"
 "$work/plain" < "$work/all" > "$work/plain_replies"
 cmp "$work/replies" "$work/plain_replies" && echo "the same replies"
