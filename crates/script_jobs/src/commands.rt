@@ -57,6 +57,16 @@ fn do_command<S: Steps>(
     }
 }
 
+// These positions in room of just their length, where memory for that is found: a run keeps those of all its jobs.
+fn fitted(alloc: Global, reads: Listed<u64>) -> Listed<u64>
+    ensures { result ≡ reads }
+{
+    match reads.try_clone(alloc) {
+        Ok(fit) => fit,
+        Err(_) => reads,
+    }
+}
+
 /// Does a command of a script over an index of nodes: what it is answered, and its job. An insert has its word filled in.
 ///
 /// The desk holds no gate. A command that is refused makes no act and no look. Its errors are those of an insert, which has the causes
@@ -85,7 +95,7 @@ pub fn one<S: Steps>(
         desk: steps.number(),
         before,
         after: steps.front(),
-        reads,
+        reads: fitted(alloc, reads),
     };
     Ok((reply, job))
 }
