@@ -30,3 +30,17 @@ RATTLE
     (cd "$work/crates/$name" && rt run -- $first)
     program="$work/crates/$name/out/$name"
 }
+
+# crates_below CRATE.. prints the crates of the repository that these stand on, and they themselves, lowest first.
+crates_below() {
+    awk -v wanted="$*" '
+        function mark(crate,    i, count, parts) {
+            if (!(crate in below) || crate in seen) return
+            seen[crate] = 1
+            count = split(below[crate], parts, " ")
+            for (i = 1; i <= count; i++) mark(parts[i])
+            print crate
+        }
+        /^[a-z_]+:/ { name = $1; sub(/:$/, "", name); $1 = ""; below[name] = $0 }
+        END { count = split(wanted, all, " "); for (i = 1; i <= count; i++) mark(all[i]) }' crates.txt
+}

@@ -6,8 +6,7 @@ set -eu
 . bench/program.sh
 work="${STEPS_FOLDER:-$(mktemp -d)}"
 first="none 1"
-crates=$(sed -n 's/^vec_board: //p' crates.txt | tr ' ' '\n' | grep -v -e arrayvec -e thiserror)
-bench_program steps_bench u64 $crates vec_board <<'RATTLE'
+bench_program steps_bench u64 $(crates_below vec_board) <<'RATTLE'
 //! Looks at nodes, or at their neighbours, one after the other in an order that jumps about. It prints how many bits or slots were
 //! told. Words: none, node, list, or turn, which looks at nodes, each at a place that hangs on what was told before, as a
 //! search does; and how many looks. Not read by the gate.
