@@ -10,6 +10,4 @@ mod core_tests;
 #[cfg(test)]
 mod look_tests;
 #[cfg(test)]
-mod replay_tests;
-#[cfg(test)]
 mod turn_tests;
