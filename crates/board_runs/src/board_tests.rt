@@ -7,6 +7,7 @@ ghost use Rattle.vec_board.specs.Boards.{HoldsAlone};
 
 use crate::core_tests::{told_of, two_pages};
 use bit_code::read_bits;
+use index_sizes::LOG_ROOM;
 use loaded_index::Loaded;
 use page_bytes::Page;
 use std::alloc::Global;
@@ -15,7 +16,7 @@ use vec_board::{Board, LoneDesk};
 use vec_history::{Act, Event, Gate, Hold};
 use vec_names::{HeapId, Listed, Tid};
 use vec_outside::{Area, Disks, MemDisks};
-use vec_steps::{Ask, LOG_ROOM, NewNode, StepFault, Steps, Told, Word};
+use vec_steps::{Ask, NewNode, StepFault, Steps, Told, Word};
 
 /// An index of the meta page and an empty page, before which four events were made, with so much used of the log.
 fn loaded(alloc: Global, used: u64) -> Result<Loaded, Fail>

@@ -5,7 +5,7 @@ ghost use Rattle.vec_names.specs.Params.{IsInRange};
 
 use crate::core_tests::{META, core, core_of, graph, number_on, two_pages};
 use bit_code::{Bits, read_bits};
-use index_sizes::MOST_BLOCKS;
+use index_sizes::{LOG_ROOM, MOST_BLOCKS};
 use page_bytes::{Page, PageKind};
 use page_log::Log;
 use page_sets::PageList;
@@ -14,7 +14,7 @@ use std::test::*;
 use vec_board::{Core, Summary};
 use vec_names::{HeapId, Kind, Listed, Ops, Params, Tid};
 use vec_outside::Area;
-use vec_steps::{Ask, LOG_ROOM, NewNode, StepFault, Told, Word};
+use vec_steps::{Ask, NewNode, StepFault, Told, Word};
 
 /// A list tuple of the centre 0000: its first block is 2, and so is its aim.
 const CENTRE: [u8; 21] = [

@@ -4,6 +4,7 @@ ghost use Rattle.std.specs.Prelude.{◌≡◌, ◌≤◌, ◌-◌, IfOk, length,
 ghost use Rattle.vec_names.specs.Params.{IsInRange};
 
 use bit_code::read_bits;
+use index_sizes::LOG_ROOM;
 use page_bytes::{Page, PageKind};
 use page_log::Log;
 use page_redo::meta_at;
@@ -14,7 +15,7 @@ use vec_board::{Core, Summary};
 use vec_history::{Event, Gate, Hold, Stage};
 use vec_names::{HeapId, Kind, Listed, Ops, Params, Tid};
 use vec_outside::Area;
-use vec_steps::{Ask, LOG_ROOM, StepFault, Told, Word};
+use vec_steps::{Ask, StepFault, Told, Word};
 
 /// The meta tuple of a graph of four places with m 2: no entry point, the hint 1.
 pub const META: [u8; 32] = [

@@ -60,6 +60,7 @@ fn place(at: Tid, list_at: Tid, version: u8) -> Place
 pub fn is_event_allowed(course: &Course<'_>, desk: u32, event: &Event) -> bool
     ensures { IsTrue result ↔ IsEventAllowed course.now.base.now course.now.acts.now desk event.now }
 {
+    // One arm for each kind of event.
     match event {
         Event::Put {
             at,

@@ -9,7 +9,8 @@ ghost use Rattle.vec_graph.specs.declared.node.Node.{Node as Nodes};
 ghost use Rattle.vec_graph.specs.Graph.{HasLevel};
 ghost use Rattle.vec_graph.specs.Effect.{after};
 ghost use Rattle.graph_judge.specs.Deciding.{IsFitting};
-ghost use Rattle.vec_graph.specs.Rules.{IsThere, IsPlaced, IsJoinAllowed, IsLinkAllowed, IsRelistAllowed, IsDropAllowed, IsMarkAllowed, IsEntryAtAllowed, IsNoEntryAllowed, IsEntryAllowed, IsHintAllowed};
+ghost use Rattle.vec_graph.specs.Rules.{IsThere, IsPlaced, IsJoinAllowed, IsLinkAllowed, IsRelistAllowed, IsDropAllowed, IsMarkAllowed};
+ghost use Rattle.vec_graph.specs.Rules.{IsEntryAtAllowed, IsNoEntryAllowed, IsEntryAllowed, IsHintAllowed};
 
 use crate::course::Course;
 use bit_code::Bits;

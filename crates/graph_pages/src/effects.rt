@@ -3,7 +3,8 @@
 //! Redo itself tests versions, deleted states, and the numbers of ids and slots. What a law asks besides is what an event that
 //! the rules allow gives.
 
-ghost use Rattle.std.specs.Prelude.{◌≡◌, ◌≤◌, ◌<◌, ◌+◌, ◌++◌, ◌∷◌, [], ℕ, Bool, List, length, Option, Some, None, slice_get, slice_set, replicate, All, Contains, ◌^◌};
+ghost use Rattle.std.specs.Prelude.{◌≡◌, ◌≤◌, ◌<◌, ◌+◌, ◌++◌, ◌∷◌, [], ℕ, Bool, List, length, Option, Some, None, slice_get, slice_set, replicate};
+ghost use Rattle.std.specs.Prelude.{All, Contains, ◌^◌};
 ghost use Rattle.vec_names.specs.declared.tid.Tid.{Tid as Place};
 ghost use Rattle.vec_names.specs.declared.heap_id.HeapId.{HeapId};
 ghost use Rattle.vec_names.specs.declared.params.Params.{Params as AnyParams};

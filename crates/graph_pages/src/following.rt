@@ -27,6 +27,7 @@ pub fn follows(event: &Event, params: &Params, pages: &[Page]) -> bool
     ensures { (g : Graphs) → All IsPage pages.now → Stands pages.now g → g.params ≡ params.now
         → IsTrue result ↔ Follows pages.now g event.now }
 {
+    // One arm for each kind of event of a graph.
     match event {
         Event::Put {
             at,

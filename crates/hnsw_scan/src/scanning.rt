@@ -12,7 +12,8 @@ ghost use Rattle.layer_search.specs.Resuming.{holding};
 ghost use Rattle.hnsw_scan.specs.Answering.{given_in, mode_of};
 ghost use Rattle.hnsw_scan.specs.Gathering.{GivesFirst, GivesNext, ScanStands};
 ghost use Rattle.hnsw_scan.specs.Gated.{GatedEnd, IsFreed, MadeGated};
-ghost use Rattle.hnsw_scan.specs.Scanning.{BatchFails, CanGive, IsUnder, IsUnderAt, IsUnused, OverScan, held_at, held_in, is_spent, is_spent_at, last_at, last_in, wanted_of};
+ghost use Rattle.hnsw_scan.specs.Scanning.{BatchFails, CanGive, IsUnder, IsUnderAt, IsUnused, OverScan, held_at, held_in, is_spent, is_spent_at};
+ghost use Rattle.hnsw_scan.specs.Scanning.{last_at, last_in, wanted_of};
 
 use crate::answer::Answer;
 use crate::batches::{Gathered, Wish};

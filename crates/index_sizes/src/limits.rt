@@ -15,6 +15,9 @@ pub const MOST_BLOCKS: u32 = 32_768;
 /// The highest number of a block, from 0.
 pub const LAST_BLOCK: u32 = 32_767;
 
+/// The most bytes that the events of an epoch of the log may take. Each takes five beside its own.
+pub const LOG_ROOM: u64 = 268_435_456;
+
 /// The bytes of a page, as PostgreSQL's BLCKSZ.
 pub const PAGE_SIZE: usize = 8_192;
 

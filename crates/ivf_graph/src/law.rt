@@ -1,12 +1,14 @@
 //! What the definitions of the index of lists and of its histories mean: laws. A function here does no work.
 
-ghost use Rattle.std.specs.Prelude.{◌≤◌, ◌≢◌, ◌-◌, slice_get, take, drop, Some, None, replicate, ◌≡◌, ◌⊎◌, ℕ, ◌∷◌, [], Bool, true, false, List, map, min, length, IsSorted, IsPermutation};
+ghost use Rattle.std.specs.Prelude.{◌≤◌, ◌≢◌, ◌-◌, slice_get, take, drop, Some, None, replicate, ◌≡◌, ◌⊎◌, ℕ, ◌∷◌, [], Bool, true, false, List, map};
+ghost use Rattle.std.specs.Prelude.{min, length, IsSorted, IsPermutation};
 ghost use Rattle.vec_history.specs.declared.event.Event.{Event as Events};
 ghost use Rattle.vec_history.specs.declared.event.Event.TheVariants.{IvfGrow};
 ghost use Rattle.std.specs.List.{enumerate_from};
 ghost use Rattle.ivf_graph.specs.Answer.{ivf_answer, found, found_by, found_on, probed, hit_of, hit_of_row};
 ghost use Rattle.bit_dist.specs.Hits.{Hit, hit_cmp};
-ghost use Rattle.ivf_graph.specs.Examples.{four, row_1, row_2, row_3, row_4, row_5, unequal_by, worked_acts, worked_centres, worked_index, growing_acts, grown_index, is_row_3, vacuum_acts};
+ghost use Rattle.ivf_graph.specs.Examples.{four, row_1, row_2, row_3, row_4, row_5, unequal_by, worked_acts, worked_centres, worked_index};
+ghost use Rattle.ivf_graph.specs.Examples.{growing_acts, grown_index, is_row_3, vacuum_acts};
 ghost use Rattle.ivf_graph.specs.Graph.{Row, rows, centres, row_need, AreBlocksApart, AreBlocksOwn};
 ghost use Rattle.ivf_graph.specs.Looks.{centre_of, centre_pages, seen_from, told_of};
 ghost use Rattle.ivf_graph.specs.Looks.Look.{AtCentres, AtRows};

@@ -1,11 +1,13 @@
 //! The chains of the lists, followed one after the other.
 
-ghost use Rattle.std.specs.Prelude.{◌≡◌, ◌≤◌, ◌<◌, ◌++◌, ◌∷◌, [], ℕ, true, false, None, Some, OnOk, IfOk, IfSome, IfNone, MatchOption, length, map, replicate, slice_get};
+ghost use Rattle.std.specs.Prelude.{◌≡◌, ◌≤◌, ◌<◌, ◌++◌, ◌∷◌, [], ℕ, true, false, None, Some, OnOk, IfOk, IfSome, IfNone, MatchOption, length, map};
+ghost use Rattle.std.specs.Prelude.{replicate, slice_get};
 ghost use Rattle.std.specs.Option.{is_some};
 ghost use Rattle.vec_names.specs.Params.{IsInRange};
 ghost use Rattle.ivf_pages.specs.declared.marks.Mark.TheVariants.{Nowhere};
 ghost use Rattle.ivf_pages.specs.Standing.{centre_in, chain_from, has_aim};
-ghost use Rattle.ivf_pages.specs.Walking.{link_of, arrived, is_cut, stopped, is_aim_met, comes_to, marked_by, visited_at, AreChanged, AreBelow, AreClosed, AreMarked, AreFirstTuples, IsFirstAimless, AreChainsApart, IsNew, chains_of};
+ghost use Rattle.ivf_pages.specs.Walking.{link_of, arrived, is_cut, stopped, is_aim_met, comes_to, marked_by, visited_at, AreChanged, AreBelow};
+ghost use Rattle.ivf_pages.specs.Walking.{AreClosed, AreMarked, AreFirstTuples, IsFirstAimless, AreChainsApart, IsNew, chains_of};
 
 use crate::links::{Link, behind, leads, links_of};
 use crate::marks::{Mark, is_met, is_new, is_shared, shorten, visit};

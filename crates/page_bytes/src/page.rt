@@ -1,6 +1,7 @@
 //! A page in its bytes.
 
-ghost use Rattle.std.specs.Prelude.{◌≡◌, ℕ, List, ◌+◌, ◌-◌, ◌*◌, ◌<◌, ◌≤◌, ◌↔◌, [], ◌∷◌, ◌++◌, length, slice_set, Some, None, IsNone, IfSome, IfNone, OnSome, IsSomeAnd, IfOk, IfErr, Ok, All, min, take};
+ghost use Rattle.std.specs.Prelude.{◌≡◌, ℕ, List, ◌+◌, ◌-◌, ◌*◌, ◌<◌, ◌≤◌, ◌↔◌, [], ◌∷◌, ◌++◌, length, slice_set, Some, None, IsNone, IfSome, IfNone};
+ghost use Rattle.std.specs.Prelude.{OnSome, IsSomeAnd, IfOk, IfErr, Ok, All, min, take};
 ghost use Rattle.std.specs.List.Sorted.{IsStrictlyIncreasing};
 ghost use Rattle.std.specs.Option.{option_copied};
 ghost use Rattle.page_bytes.specs.Content.{IsPage, round8, free_of, item_at, others};

@@ -3,7 +3,8 @@
 use Rattle.std.specs.Prelude.{◌≡◌, ◌≢◌, ◌⊎◌, ℕ, ◌+◌, ◌<◌, ◌≤◌, ◌^◌, List, [], ◌∷◌, ◌++◌, length, drop, Option, Some, None}
 use Rattle.std.specs.Int.{w32, to_le_bytes}
 use Rattle.std.specs.List.{flat_map}
-use Rattle.page_log.specs.declared.limits.TheConstants.{MOST_USED, OPEN}
+use Rattle.page_log.specs.declared.limits.TheConstants.{OPEN}
+use Rattle.index_sizes.specs.declared.limits.TheConstants.{LOG_ROOM}
 use Rattle.vec_history.specs.declared.event.Event.{Event}
 use Rattle.vec_event.specs.Spelling.{spelling, IsTyped, IsWritable}
 
@@ -48,7 +49,7 @@ pub record IsBatch (area : List ℕ) (at : ℕ) (bytes : List ℕ) : Type 0 wher
 abbrev pub IsRefused : List ℕ → ℕ → ℕ → Type 0
 IsRefused area at used =
     (bytes : List ℕ) (events : List Placed) (bad : Option ℕ) → IsBatch area at bytes → AreEvents (at + 5) bytes events bad
-    → MOST_USED < used + room_of events
+    → LOG_ROOM < used + room_of events
 
 -- How a log ends: behind the batches that stand whole, with the events of one more that are read, where it stands
 -- itself; what all of them take of the room; and the place of the batch or event that is bad, if one is.
@@ -71,7 +72,7 @@ pub record EndsWithin (area : List ℕ) (at used : ℕ) (tail : Tail) (place : �
   pub batch : IsBatch area at bytes
   pub events : AreEvents (at + 5) bytes tail.events (Some place)
   pub used_is : tail.used ≡ used + room_of tail.events
-  pub fits : tail.used ≤ MOST_USED
+  pub fits : tail.used ≤ LOG_ROOM
 
 abbrev pub EndsBy : List ℕ → ℕ → ℕ → Tail → Option ℕ → Type 0
 EndsBy area at used tail None = ¬ IsOpenAt area at × (tail.events ≡ []) × (tail.used ≡ used)
@@ -81,7 +82,7 @@ EndsBy area at used tail (Some place) = IsOpenAt area at × (EndsRefused area at
 abbrev pub AreBatches : List ℕ → ℕ → ℕ → List (List Placed) → Tail → Type 0
 AreBatches area at used [] tail = (tail.end ≡ at) × EndsBy area at used tail tail.bad
 AreBatches area at used (events ∷ batches) tail =
-    (bytes : List ℕ) × IsBatch area at bytes × AreEvents (at + 5) bytes events None × (used + room_of events ≤ MOST_USED)
+    (bytes : List ℕ) × IsBatch area at bytes × AreEvents (at + 5) bytes events None × (used + room_of events ≤ LOG_ROOM)
     × AreBatches area (at + 5 + length bytes) (used + room_of events) batches tail
 
 -- the log of an area from the end of its images on: its events with their places, where it ends, what its events take of the

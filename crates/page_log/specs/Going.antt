@@ -7,7 +7,8 @@ use Rattle.vec_history.specs.declared.event.Event.{Event}
 use Rattle.vec_outside.specs.Disk.{Disk, LeavesOnly}
 use Rattle.vec_outside.specs.declared.disks.Area.{Area}
 use Rattle.page_log.specs.Batches.{Placed, Tail, AreBatches, IsLog}
-use Rattle.page_log.specs.declared.limits.TheConstants.{MOST_USED, OPEN}
+use Rattle.page_log.specs.declared.limits.TheConstants.{OPEN}
+use Rattle.index_sizes.specs.declared.limits.TheConstants.{LOG_ROOM}
 
 -- ---- events
 
@@ -106,7 +107,7 @@ pub record IsGoing (base : List ℕ) (log : Unsettled) (disk : Disk) (settled pe
   pub newer : log.newer.bytes ≡ spelled fresh
   pub count : log.newer.count ≡ length fresh
   pub used : log.newer.used ≡ before + room pending
-  pub fits : log.newer.used ≤ MOST_USED
+  pub fits : log.newer.used ≤ LOG_ROOM
   pub images : (bytes : List ℕ) → disk.leaves log.area bytes → (log.bare ≡ false) × IsSealed front log.fixed log.body bytes
 
 -- From a log that was going with the disk, while these events were added: some more of its events are settled, in order, and

@@ -4,7 +4,7 @@ use Rattle.vec_event.specs.Spelling.{spelling}
 use Rattle.vec_history.specs.declared.event.Event.{Event}
 use Rattle.page_log.specs.declared.log_fault.LogFault.{LogFault}
 use Rattle.page_log.specs.declared.log_fault.LogFault.TheVariants.{Memory, Full, Disk}
-use Rattle.page_log.specs.declared.limits.TheConstants.{MOST_USED}
+use Rattle.index_sizes.specs.declared.limits.TheConstants.{LOG_ROOM}
 use Rattle.vec_outside.specs.Causes.{Rose}
 
 -- want of memory alone
@@ -21,7 +21,7 @@ IsDiskFault before now (Disk count) = (count ≡ now) × Rose before now
 
 -- an event is refused just where it has no room beside what is used, and else for memory only with no spare
 abbrev pub IsAppendFault : ℕ → ℕ → Event → LogFault → Type 0
-IsAppendFault used spare event Memory = (spare ≡ 0) × (used + (length (spelling event) + 5) ≤ MOST_USED)
+IsAppendFault used spare event Memory = (spare ≡ 0) × (used + (length (spelling event) + 5) ≤ LOG_ROOM)
 IsAppendFault used spare event (Full taken size) =
-    (taken ≡ used) × (size ≡ length (spelling event)) × (MOST_USED < used + (length (spelling event) + 5))
+    (taken ≡ used) × (size ≡ length (spelling event)) × (LOG_ROOM < used + (length (spelling event) + 5))
 IsAppendFault used spare event (Disk count) = ⊥

@@ -1,11 +1,11 @@
 -- What the two log areas read as, by their bytes alone: no index, an epoch with its images and events, or the place of what
 -- is wrong.
 use Rattle.std.specs.Prelude.{◌≡◌, ◌⊎◌, ℕ, ◌+◌, ◌*◌, ◌%◌, ◌^◌, ◌<◌, ◌≤◌, nat_lt, ◌==◌, if◌then◌else◌, List, [], ◌∷◌, length, Option, Some, None, Result, Ok, Err, ⊤}
-use Rattle.index_sizes.specs.declared.limits.TheConstants.{MOST_BLOCKS}
+use Rattle.index_sizes.specs.declared.limits.TheConstants.{LOG_ROOM, MOST_BLOCKS}
 use Rattle.page_bytes.specs.Content.{Content}
 use Rattle.page_log.specs.Batches.{Placed, IsLog}
 use Rattle.page_log.specs.Epoch.{is_open, named_head, bad_size, AreImages}
-use Rattle.page_log.specs.declared.limits.TheConstants.{HEAD, IMAGE, MOST_USED}
+use Rattle.page_log.specs.declared.limits.TheConstants.{HEAD, IMAGE}
 use Rattle.page_log.specs.declared.front.Front.{Front}
 use Rattle.page_log.specs.declared.head.Head.{Head}
 use Rattle.page_log.specs.declared.opening.ReadLog.{ReadLog}
@@ -148,7 +148,7 @@ pub record IsInRange (log : ReadLog) : Type 0 where
   pub images : RisesBelow 0 log.blocks log.images.items
   pub begins : HEAD ≤ log.end
   pub ends : log.end ≤ 2 ^ 32
-  pub used : log.used ≤ MOST_USED
+  pub used : log.used ≤ LOG_ROOM
 
 -- a log that was read of an area with this header
 pub record IsLogOf (area : Area) (head : Head) (log : ReadLog) : Type 0 where
@@ -157,4 +157,4 @@ pub record IsLogOf (area : Area) (head : Head) (log : ReadLog) : Type 0 where
   pub images : RisesBelow 0 head.blocks log.images.items
   pub begins : HEAD ≤ log.end
   pub ends : log.end ≤ 2 ^ 32
-  pub used : log.used ≤ MOST_USED
+  pub used : log.used ≤ LOG_ROOM

@@ -9,7 +9,8 @@ use Rattle.vec_history.specs.declared.event.Event.{Event}
 use Rattle.vec_outside.specs.Disk.{Disk, IsImage, IsKept, LeavesOnly}
 use Rattle.page_log.specs.declared.batches.Run.{Run}
 use Rattle.page_log.specs.declared.events.Piece.{Piece}
-use Rattle.page_log.specs.declared.limits.TheConstants.{MOST_USED, OPEN}
+use Rattle.page_log.specs.declared.limits.TheConstants.{OPEN}
+use Rattle.index_sizes.specs.declared.limits.TheConstants.{LOG_ROOM}
 
 -- ---- events by pieces
 
@@ -44,7 +45,7 @@ pub record TakesWhole (old new : Run) (bytes : List ℕ) : Type 0 where
   pub are : AreEvents (old.end + 5) bytes more None
   pub events : new.events.items ≡ old.events.items ++ more
   pub used : new.used ≡ old.used + room_of more
-  pub fits : new.used ≤ MOST_USED
+  pub fits : new.used ≤ LOG_ROOM
   pub end_is : new.end ≡ old.end + 5 + length bytes
   pub bad_is : new.bad ≡ None
 
@@ -53,7 +54,7 @@ pub record TakesTooMuch (old new : Run) (bytes : List ℕ) : Type 0 where
   pub more : List Placed
   pub bad : Option ℕ
   pub are : AreEvents (old.end + 5) bytes more bad
-  pub over : MOST_USED < old.used + room_of more
+  pub over : LOG_ROOM < old.used + room_of more
   pub events : new.events.items ≡ old.events.items
   pub used : new.used ≡ old.used
   pub end_is : new.end ≡ old.end
@@ -66,7 +67,7 @@ pub record TakesPart (old new : Run) (bytes : List ℕ) : Type 0 where
   pub are : AreEvents (old.end + 5) bytes more (Some place)
   pub events : new.events.items ≡ old.events.items ++ more
   pub used : new.used ≡ old.used + room_of more
-  pub fits : new.used ≤ MOST_USED
+  pub fits : new.used ≤ LOG_ROOM
   pub end_is : new.end ≡ old.end
   pub bad_is : new.bad ≡ Some place
 
@@ -77,7 +78,7 @@ StopsAt old new bytes = TakesTooMuch old new bytes ⊎ TakesPart old new bytes
 pub record Moves (old new : Run) (len : ℕ) : Type 0 where
   pub end_is : new.end ≡ old.end + 5 + len
   pub covers : 5 + len + old.used ≤ new.used
-  pub fits : new.used ≤ MOST_USED
+  pub fits : new.used ≤ LOG_ROOM
   pub bad_is : new.bad ≡ None
 
 -- ---- on disks

@@ -6,7 +6,7 @@ ghost use Rattle.page_log.specs.Steps.{Moves, OnlyReads, StopsAt, TakesWhole, by
 ghost use Rattle.vec_outside.specs.Causes.{HasCause};
 
 use crate::events::read_batch_events;
-use crate::limits::MOST_USED;
+use index_sizes::LOG_ROOM;
 use std::alloc::Global;
 use vec_event::{Event, event_size};
 use vec_outside::{Area, Disks, Outage};
@@ -44,27 +44,27 @@ pub fn take_batch<D: Disks>(
     requires place { run.old.end + 5 + len < 2 ^ 64 }
     requires within { D.told → run.old.end + 5 + len ≤ length ((D.disk disks.old).seen area) }
     requires some { 0 < len }
-    requires used { run.old.used ≤ MOST_USED }
+    requires used { run.old.used ≤ LOG_ROOM }
     requires fine { run.old.bad ≡ None }
     ensures whole { D.told → IfOk result (λ goes_on. goes_on ≡ true
         → TakesWhole run.old run.new (bytes_of ((D.disk disks.old).seen area) run.old.end len)) }
     ensures stops { D.told → IfOk result (λ goes_on. goes_on ≡ false
         → StopsAt run.old run.new (bytes_of ((D.disk disks.old).seen area) run.old.end len)) }
     ensures further { IfOk result (λ goes_on. goes_on ≡ true → Moves run.old run.new len) }
-    ensures stays { IfOk result (λ goes_on. goes_on ≡ false → (run.new.end ≡ run.old.end) × (run.new.used ≤ MOST_USED)) }
+    ensures stays { IfOk result (λ goes_on. goes_on ≡ false → (run.new.end ≡ run.old.end) × (run.new.used ≤ LOG_ROOM)) }
     ensures only { OnlyReads (D.disk disks.old) (D.disk disks.new) }
     ensures cause { HasCause (D.count disks.old) (D.count disks.new) result }
 {
     let before = run.events.len();
     let bad = read_batch_events(alloc, disks, area, run.end + 5, len, &mut run.events)?;
-    match room_left(MOST_USED - run.used, &run.events[before..]) {
+    match room_left(LOG_ROOM - run.used, &run.events[before..]) {
         None => {
             run.events.truncate(before);
             run.bad = Some(run.end);
             Ok(false)
         }
         Some(left) => {
-            run.used = MOST_USED - left;
+            run.used = LOG_ROOM - left;
             run.bad = bad;
             if bad.is_some() {
                 return Ok(false);

@@ -3,11 +3,13 @@
 ghost use Rattle.std.specs.Prelude.{◌≡◌, ◌⊎◌, ◌<◌, ◌≤◌, ◌++◌, ◌∷◌, [], ℕ, List, length, Option, Some, None, Ok, Result};
 ghost use Rattle.vec_history.specs.declared.event.Event.{Event};
 ghost use Rattle.page_bytes.specs.Content.{Content};
-ghost use Rattle.page_log.specs.declared.limits.TheConstants.{HEAD, MOST_USED, OPEN};
+ghost use Rattle.page_log.specs.declared.limits.TheConstants.{HEAD, OPEN};
+ghost use Rattle.index_sizes.specs.declared.limits.TheConstants.{LOG_ROOM};
 ghost use Rattle.vec_outside.specs.Disk.{Image, IsDurable, IsImage};
 ghost use Rattle.vec_outside.specs.declared.disks.Area.TheVariants.{Pages, Log0, Log1};
 ghost use Rattle.page_log.specs.Aside.{AreAll, IsAside, IsUnderShut, IsUnderSome};
-ghost use Rattle.page_log.specs.BothLogs.{Change, Held, HasImages, IsEpochOf, Logs, Ready, IsNext, IsStanding, LogsComeFrom, LogsGoOn, Reads, ReadsAny, added, alone, before_next, begun, begun_log, held_of, other_log, with_all_settled};
+ghost use Rattle.page_log.specs.BothLogs.{Change, Held, HasImages, IsEpochOf, Logs, Ready, IsNext, IsStanding, LogsComeFrom, LogsGoOn, Reads};
+ghost use Rattle.page_log.specs.BothLogs.{ReadsAny, added, alone, before_next, begun, begun_log, held_of, other_log, with_all_settled};
 ghost use Rattle.page_log.specs.Going.{ComesFrom, KeepsOthers, SettlesAll, Unsettled};
 ghost use Rattle.page_log.specs.NewEpochs.{NewEpoch, IsNewEpoch, IsUnder, base_of};
 ghost use Rattle.page_log.specs.Parts.{at_end};
@@ -42,7 +44,7 @@ pub fn law_epochs<D: Disks>()
         → IsImage (D.disk disks) image → ReadsAny held image }
     ensures opened { (disks : D) (epoch : Epoch) → IsDurable epoch.area (D.disk disks) → IsDurable (other_log epoch.area) (D.disk disks)
         → HEAD ≤ length ((D.disk disks).seen (other_log epoch.area)) → ReadsAs (D.disk disks).seen (Ok (Some epoch)) → epoch.bad ≡ None
-        → epoch.end < length ((D.disk disks).seen epoch.area) → epoch.used ≤ MOST_USED
+        → epoch.end < length ((D.disk disks).seen epoch.area) → epoch.used ≤ LOG_ROOM
         → IsStanding (alone (at_end epoch.area epoch.end epoch.used)) (D.disk disks) (held_of (D.disk disks).seen epoch) }
     ensures ready { (disks : D) (log : Unsettled) (held : Held) (new : NewEpoch) → IsStanding (alone log) (D.disk disks) held
         → IsNext held new → AreAll (IsUnderShut new) (area_of new.epoch) (D.disk disks)

@@ -10,7 +10,7 @@ ghost use Rattle.page_log.specs.Going.{Unsettled, IsGoing, IsBetween, Holds, Com
 ghost use Rattle.page_log.specs.Parts.{with_event, taken, at_end, past, newer_of, unsettled, IsOut, IsSameBatch};
 ghost use Rattle.page_log.specs.declared.log.Log.{Log};
 ghost use Rattle.page_log.specs.declared.pending.Pending.{Pending};
-ghost use Rattle.page_log.specs.declared.limits.TheConstants.{MOST_USED};
+ghost use Rattle.index_sizes.specs.declared.limits.TheConstants.{LOG_ROOM};
 
 use vec_outside::Disks;
 
@@ -27,7 +27,7 @@ pub fn law_going<D: Disks>()
         → IsGoing base log (D.disk disks) settled [] → (image : Image) → IsImage (D.disk disks) image
         → Holds base settled (image log.area) }
     ensures event { (disks : D) (base : List ℕ) (log : Unsettled) (event : Event) (settled pending : List Event)
-        → IsTyped event → IsWritable event → log.newer.used + (length (spelling event) + 5) ≤ MOST_USED
+        → IsTyped event → IsWritable event → log.newer.used + (length (spelling event) + 5) ≤ LOG_ROOM
         → IsGoing base log (D.disk disks) settled pending
         → IsGoing base (with_event log event) (D.disk disks) settled (pending ++ event ∷ []) }
     ensures batch { (disks : D) (base : List ℕ) (log : Unsettled) (settled pending : List Event)
@@ -37,7 +37,7 @@ pub fn law_going<D: Disks>()
     ensures opened { (disks : D) (base : List ℕ) (area : Area) (placed : List Placed) (end used : ℕ) → IsDurable area (D.disk disks)
         → take (length base) ((D.disk disks).seen area) ≡ base
         → IsLog ((D.disk disks).seen area) (length base) placed end used None
-        → end < length ((D.disk disks).seen area) → used ≤ MOST_USED
+        → end < length ((D.disk disks).seen area) → used ≤ LOG_ROOM
         → IsGoing base (at_end area end used) (D.disk disks) (map (λ placed. placed.1) placed) [] }
 {}
 
@@ -46,7 +46,7 @@ pub fn law_going<D: Disks>()
 pub fn law_coming<D: Disks>()
     ensures same { (disks : D) (log : Unsettled) → ComesFrom log (D.disk disks) log (D.disk disks) [] }
     ensures event { (disks : D) (log : Unsettled) (event : Event) → IsTyped event → IsWritable event
-        → log.newer.used + (length (spelling event) + 5) ≤ MOST_USED
+        → log.newer.used + (length (spelling event) + 5) ≤ LOG_ROOM
         → ComesFrom log (D.disk disks) (with_event log event) (D.disk disks) (event ∷ []) }
     ensures joined { (first second third : D) (old mid new : Unsettled) (added more : List Event)
         → ComesFrom old (D.disk first) mid (D.disk second) added → ComesFrom mid (D.disk second) new (D.disk third) more

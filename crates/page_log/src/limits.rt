@@ -18,9 +18,6 @@ pub const SEAL: usize = 39;
 /// The bytes of a base image: a block's number and its page.
 pub const IMAGE: usize = 8_196;
 
-/// The most bytes that the events of an epoch may take, each with 5 bytes more than its own.
-pub const MOST_USED: u64 = 268_435_456;
-
 /// The byte that is written where a seal is closed.
 pub const CLOSED: u8 = 0;
 

@@ -2,13 +2,15 @@
 
 ghost use Rattle.std.specs.Prelude.{◌≡◌, ◌+◌, ◌-◌, ◌*◌, ◌≤◌, ◌^◌, length, vec_len, vec_capacity};
 ghost use Rattle.page_log.specs.Bodies.{IsBack, bytes_back, events_back};
-ghost use Rattle.page_log.specs.declared.limits.TheConstants.{HEAD, MOST_USED, SPARE};
+ghost use Rattle.page_log.specs.declared.limits.TheConstants.{HEAD, SPARE};
+ghost use Rattle.index_sizes.specs.declared.limits.TheConstants.{LOG_ROOM};
 
 use crate::bodies::{close, join, keep, put_event};
 use crate::flushing::flush_pending;
-use crate::limits::{HEAD, MOST_USED, SPARE};
+use crate::limits::{HEAD, SPARE};
 use crate::log_fault::LogFault;
 use crate::pending::Pending;
+use index_sizes::LOG_ROOM;
 use std::alloc::Global;
 use std::mem;
 use vec_event::{Event, event_size};
@@ -27,7 +29,7 @@ pub struct Log {
     fresh: Vec<u8>,
     count: u64,
     back: Option<Pending>,
-    ghost few: { used ≤ MOST_USED },
+    ghost few: { used ≤ LOG_ROOM },
     ghost headed: { 1 ≤ length fresh.items + count → (5 ≤ length fresh.items) × (1 ≤ count) },
     ghost has_room: { vec_len fresh + spare * SPARE ≤ vec_capacity fresh },
     ghost share: { length fresh.items + count + bytes_back back ≤ used },
@@ -52,7 +54,7 @@ impl Log {
         requires area { area ≡ area_of epoch }
         requires header { HEAD ≤ end }
         requires end { end ≤ 2 ^ 32 }
-        requires used { used ≤ MOST_USED }
+        requires used { used ≤ LOG_ROOM }
         ensures log { unsettled result ≡ at_end area end used }
         ensures epoch { result.epoch ≡ epoch }
         ensures spare { result.spare ≡ 0 }
@@ -80,7 +82,7 @@ impl Log {
     /// What all events of the epoch take of its room, five bytes each beside their own.
     pub fn used(&self) -> u64
         ensures used { result ≡ (newer_of self.now).used }
-        ensures few { result ≤ MOST_USED }
+        ensures few { result ≤ LOG_ROOM }
     {
         self.used
     }
@@ -109,7 +111,7 @@ impl Log {
         requires { IsWritable event.now }
         ensures ok { OnOk result (unsettled self.new ≡ with_event (unsettled self.old) event.now) }
         ensures typed { IsTyped event.now }
-        ensures room { OnOk result ((newer_of self.new).used ≤ MOST_USED) }
+        ensures room { OnOk result ((newer_of self.new).used ≤ LOG_ROOM) }
         ensures spare { OnOk result (self.new.spare ≡ self.old.spare - 1) }
         ensures err { OnErr result ((unsettled self.new ≡ unsettled self.old) × (self.new.spare ≡ self.old.spare)) }
         ensures fault { IfErr result (IsAppendFault (newer_of self.old).used self.old.spare event.now) }
@@ -118,7 +120,7 @@ impl Log {
     {
         keep(event);
         let size = event_size(event);
-        if MOST_USED - self.used < size + 5 {
+        if LOG_ROOM - self.used < size + 5 {
             return Err(LogFault::Full {
                 used: self.used,
                 size,

@@ -3,7 +3,7 @@
 ghost use Rattle.std.specs.Prelude.{◌≡◌, ◌+◌, ◌<◌, ◌≤◌, length, true, false, None, IfOk};
 ghost use Rattle.page_log.specs.Batches.{IsLog};
 ghost use Rattle.page_log.specs.Steps.{OnlyReads, GoesOn, Ends};
-ghost use Rattle.page_log.specs.declared.limits.TheConstants.{MOST_USED};
+ghost use Rattle.index_sizes.specs.declared.limits.TheConstants.{LOG_ROOM};
 ghost use Rattle.vec_outside.specs.Causes.{HasCause};
 
 use crate::batches::{Run, take_batch};
@@ -20,15 +20,15 @@ fn read_batch<D: Disks>(
     run: &mut Run,
 ) -> Result<bool, Outage>
     requires size { D.told → size ≡ length ((D.disk disks.old).seen area) }
-    requires used { run.old.used ≤ MOST_USED }
+    requires used { run.old.used ≤ LOG_ROOM }
     requires fine { run.old.bad ≡ None }
     ensures whole { D.told → IfOk result (λ goes_on. goes_on ≡ true → GoesOn ((D.disk disks.old).seen area) run.old run.new) }
     ensures stops { D.told → IfOk result (λ goes_on. goes_on ≡ false → Ends ((D.disk disks.old).seen area) run.old run.new) }
-    ensures used { IfOk result (λ goes_on. goes_on ≡ true → run.new.used ≤ MOST_USED) }
+    ensures used { IfOk result (λ goes_on. goes_on ≡ true → run.new.used ≤ LOG_ROOM) }
     ensures fine { IfOk result (λ goes_on. goes_on ≡ true → run.new.bad ≡ None) }
     ensures further { IfOk result (λ goes_on. goes_on ≡ true → (run.old.end < run.new.end) × (run.new.end ≤ size)) }
     ensures bound { IfOk result (λ goes_on. goes_on ≡ true → run.new.end + run.old.used ≤ run.old.end + run.new.used) }
-    ensures stays { IfOk result (λ goes_on. goes_on ≡ false → (run.new.end ≡ run.old.end) × (run.new.used ≤ MOST_USED)) }
+    ensures stays { IfOk result (λ goes_on. goes_on ≡ false → (run.new.end ≡ run.old.end) × (run.new.used ≤ LOG_ROOM)) }
     ensures only { OnlyReads (D.disk disks.old) (D.disk disks.new) }
     ensures cause { HasCause (D.count disks.old) (D.count disks.new) result }
 {
@@ -50,7 +50,7 @@ pub fn read_batches<D: Disks>(
     at: u64,
 ) -> Result<Run, Outage>
     ensures log { D.told → IfOk result (λ run. IsLog ((D.disk disks.old).seen area) at run.events.items run.end run.used run.bad) }
-    ensures range { IfOk result (λ run. (at ≤ run.end) × (run.end ≤ at + MOST_USED) × (run.used ≤ MOST_USED)) }
+    ensures range { IfOk result (λ run. (at ≤ run.end) × (run.end ≤ at + LOG_ROOM) × (run.used ≤ LOG_ROOM)) }
     ensures only { OnlyReads (D.disk disks.old) (D.disk disks.new) }
     ensures cause { HasCause (D.count disks.old) (D.count disks.new) result }
 {

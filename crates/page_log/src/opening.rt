@@ -1,14 +1,14 @@
 //! Reading what the log areas hold.
 
-ghost use Rattle.std.specs.Prelude.{◌≡◌, ◌+◌, ◌≤◌, ◌<◌, ◌^◌, ℕ, List, Option, Some, None, Result, Ok, Err, IfOk, IfSome, IfErr, MatchResult, nat_lt, if◌then◌else◌};
+ghost use Rattle.std.specs.Prelude.{◌≡◌, ◌+◌, ◌≤◌, ◌<◌, ◌^◌, ℕ, List, Option, Some, None, Result, Ok, Err, IfOk, IfSome, IfErr, MatchResult, nat_lt};
+ghost use Rattle.std.specs.Prelude.{if◌then◌else◌};
 ghost use Rattle.page_log.specs.Epoch as epochs;
 ghost use Rattle.page_log.specs.OpenCauses.{IsReadFault};
 ghost use Rattle.page_log.specs.Opening as openings;
 ghost use Rattle.page_log.specs.Opening.{Epoch, IsCut, IsEpoch, IsInRange, IsLogOf, IsNamed, IsRead, IsReading, area_of, epoch_of, parity_of};
 ghost use Rattle.page_log.specs.Steps.{OnlyReads};
 ghost use Rattle.page_log.specs.declared.front.Front.{Front};
-ghost use Rattle.page_log.specs.declared.limits.TheConstants.{MOST_USED};
-ghost use Rattle.index_sizes.specs.declared.limits.TheConstants.{MOST_BLOCKS};
+ghost use Rattle.index_sizes.specs.declared.limits.TheConstants.{LOG_ROOM, MOST_BLOCKS};
 ghost use Rattle.vec_outside.specs.Causes.{HasCause};
 
 use crate::batches::Run;

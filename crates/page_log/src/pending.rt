@@ -2,7 +2,7 @@
 
 ghost use Rattle.std.specs.Prelude.{◌≡◌, ◌+◌, ◌≤◌, ◌^◌, length};
 ghost use Rattle.page_log.specs.Going.{body_of, payload};
-ghost use Rattle.page_log.specs.declared.limits.TheConstants.{MOST_USED};
+ghost use Rattle.index_sizes.specs.declared.limits.TheConstants.{LOG_ROOM};
 
 use vec_outside::Area;
 
@@ -19,7 +19,7 @@ pub struct Pending {
     pub fixed: bool,
     pub bare: bool,
     pub ghost whole: { bytes.items ≡ body_of (payload bytes.items) },
-    pub ghost few: { length bytes.items ≤ MOST_USED },
-    pub ghost counted: { events ≤ MOST_USED },
+    pub ghost few: { length bytes.items ≤ LOG_ROOM },
+    pub ghost counted: { events ≤ LOG_ROOM },
     pub ghost within: { at + length bytes.items ≤ 2 ^ 33 },
 }

@@ -44,6 +44,7 @@ fn change(event: &Event, params: &Params, wrap: u8, block: u32, page: &mut Page)
     requires { IsInRange params.now }
     ensures { IsMade (changed event.now params.now wrap block page.old) page.old page.new result }
 {
+    // One arm for each kind of event that changes a page.
     match event {
         Event::Put {
             at,

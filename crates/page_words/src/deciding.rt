@@ -53,6 +53,7 @@ pub fn decide<P: PageSet>(
     ensures at { told.new.at ≡ told.old.at }
     ensures bits { told.new.bits ≡ told.old.bits }
 {
+    // One arm for each ask that changes pages.
     match ask {
         Ask::Put { block, node } => put_on(
             pages.page(*block),

@@ -1,7 +1,8 @@
 // The text of a reply.
 ghost use Rattle.std.specs.Prelude.{◌≡◌, ◌++◌, ◌∷◌, [], codes, decimal, OnOk};
 ghost use Rattle.script_words.specs.Commands.{id_word};
-ghost use Rattle.script_words.specs.Replies.{count_line, counted, created_line, dist_word, hit_line, hits_text, joined_line, place_word, put_line, refusal_word, reply_text, stats_line};
+ghost use Rattle.script_words.specs.Replies.{count_line, counted, created_line, dist_word, hit_line, hits_text, joined_line, place_word, put_line};
+ghost use Rattle.script_words.specs.Replies.{refusal_word, reply_text, stats_line};
 
 use crate::fault::ScriptFault;
 use crate::reply::{Counts, Refusal, Reply};

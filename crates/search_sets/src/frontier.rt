@@ -4,7 +4,8 @@ ghost use Rattle.std.specs.Prelude.{◌≡◌, ◌≤◌, ◌∷◌, [], OnOk, I
 ghost use Rattle.graph_search.specs.Search.{filled};
 ghost use Rattle.graph_search.specs.Scan.{is_over};
 ghost use Rattle.graph_search.specs.ByHolding.{HoldTheSame, batch_of, unnamed};
-ghost use Rattle.search_sets.specs.Standing.{IsWhole, TakesLeast, begun_from, found_at, held, holds_nothing, known_earlier, wanted, with_elements, with_names, without_batch};
+ghost use Rattle.search_sets.specs.Standing.{IsWhole, TakesLeast, begun_from, found_at, held, holds_nothing, known_earlier, wanted, with_elements};
+ghost use Rattle.search_sets.specs.Standing.{with_names, without_batch};
 
 use crate::candidates::Candidates;
 use crate::copying::{copy_of, found_of, has_rows};

@@ -1,7 +1,7 @@
 -- A change that a desk asks for, as a step of the desk.
 use Rattle.std.proofs.Common.{◌≡◌, ◌≤◌, ℕ, true, List, [], ◌∷◌, length, All, Option, Some, None, refl, sym, subst, ◌∙◌, inl, inr}
 use Rattle.std.specs.Prelude.{slice_get, Result, Ok, Err, OnOk, OnErr, IfErr}
-use Rattle.index_sizes.specs.declared.limits.TheConstants.{MOST_BLOCKS}
+use Rattle.index_sizes.specs.declared.limits.TheConstants.{LOG_ROOM, MOST_BLOCKS}
 use Rattle.vec_names.specs.declared.params.Params.{Params}
 use Rattle.vec_history.specs.declared.event.Event.{Event}
 use Rattle.vec_history.specs.declared.event.Act.{Act}
@@ -21,7 +21,6 @@ use Rattle.ivf_pages.specs.Standing.{Stands as StandsForLists}
 use Rattle.page_sets.specs.Sets.{PageMap, HasPages}
 use Rattle.page_words.specs.declared.making.Making.{Making}
 use Rattle.page_words.specs.Deciding.{asked_of, events_of, MayChange, MayChangeLists, IsOfNodes, IsOfLists, SaysNow}
-use Rattle.vec_steps.specs.declared.room.TheConstants.{LOG_ROOM}
 use Rattle.vec_steps.specs.declared.ask.Ask.{Ask}
 use Rattle.vec_steps.specs.declared.ask.Ask.TheVariants as ask
 use Rattle.vec_steps.specs.declared.told.Told.{Told}

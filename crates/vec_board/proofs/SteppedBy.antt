@@ -4,7 +4,7 @@ use Rattle.vec_history.specs.declared.event.Event.{Event}
 use Rattle.vec_history.specs.declared.event.Act.{Act}
 use Rattle.vec_history.specs.Acts.{act_of}
 use Rattle.vec_history.specs.Settling.{is_lasting}
-use Rattle.vec_steps.specs.declared.room.TheConstants.{LOG_ROOM}
+use Rattle.index_sizes.specs.declared.limits.TheConstants.{LOG_ROOM}
 use Rattle.vec_steps.specs.declared.ask.Ask.{Ask}
 use Rattle.vec_steps.specs.declared.ask.Ask.TheVariants as ask
 use Rattle.vec_steps.specs.declared.told.Told.{Told}

@@ -13,10 +13,9 @@ use Rattle.page_redo.specs.Growing.{blocks_after}
 use Rattle.page_redo.specs.Fitting.{FitsEach}
 use Rattle.page_sets.specs.Sets.{PageMap}
 use Rattle.page_sets.specs.Committing.{HasTouched, IsCommitted}
-use Rattle.page_log.specs.declared.limits.TheConstants.{MOST_USED}
+use Rattle.index_sizes.specs.declared.limits.TheConstants.{LOG_ROOM}
 use Rattle.page_log.specs.Going.{Unsettled}
 use Rattle.page_log.specs.Parts.{newer_of, unsettled, with_event}
-use Rattle.vec_steps.specs.declared.room.TheConstants.{LOG_ROOM}
 use Rattle.vec_steps.specs.declared.fault.StepFault.{StepFault}
 use Rattle.vec_steps.specs.declared.fault.StepFault.TheVariants as fault
 use Rattle.vec_steps.specs.Index.{Index, IsLegal}
@@ -121,7 +120,7 @@ IsLogReady core desk e = is_lasting e ≡ true → room_in_all (spent desk core.
 -- a lasting event can be written, has room in the epoch, and makes no more blocks than this
 pub record IsTaken (core : Core) (e : Event) (grown : ℕ) : Type 0 where
   pub written : IsWritable e
-  pub room : (newer_of core.log).used + (length (spelling e) + 5) ≤ MOST_USED
+  pub room : (newer_of core.log).used + (length (spelling e) + 5) ≤ LOG_ROOM
   pub blocks : blocks_after e core.summary.blocks ≤ core.summary.blocks + grown
   pub few : blocks_after e core.summary.blocks < 2 ^ 32
 
@@ -131,7 +130,7 @@ pub record IsPrepared (core : Core) (desk : ℕ) (e : Event) : Type 0 where
   pub log : IsLogReady core desk e
   pub ends : one_if_ends e ≡ 1 → IsToldEnd core.history.tables desk e
   pub written : is_lasting e ≡ true → IsWritable e
-  pub room : is_lasting e ≡ true → (newer_of core.log).used + (length (spelling e) + 5) ≤ MOST_USED
+  pub room : is_lasting e ≡ true → (newer_of core.log).used + (length (spelling e) + 5) ≤ LOG_ROOM
   pub few : is_lasting e ≡ true → blocks_after e core.summary.blocks < 2 ^ 32
 
 -- what becomes of the pages for an act that is to be made

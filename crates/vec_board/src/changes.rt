@@ -6,7 +6,7 @@ ghost use Rattle.vec_history.specs.Settling.{is_lasting};
 ghost use Rattle.page_bytes.specs.Content.{Content};
 ghost use Rattle.page_words.specs.Deciding.{events_of};
 ghost use Rattle.vec_steps.specs.declared.fault.StepFault.TheVariants.{Memory};
-ghost use Rattle.vec_steps.specs.declared.room.TheConstants.{LOG_ROOM};
+ghost use Rattle.index_sizes.specs.declared.limits.TheConstants.{LOG_ROOM};
 ghost use Rattle.vec_steps.specs.Index.{Index};
 ghost use Rattle.vec_steps.specs.Doing.{Ended};
 ghost use Rattle.vec_steps.specs.Telling.{step_of};

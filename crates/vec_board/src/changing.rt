@@ -11,10 +11,11 @@ ghost use Rattle.vec_board.specs.Acting.{IsTaken, MayChange, IsChangeCause, IsCh
 
 use crate::board_core::Core;
 use crate::writable::is_writable;
+use index_sizes::LOG_ROOM;
 use page_sets::{PageSet, blocks_after, commit};
 use vec_event::event_size;
 use vec_history::{Event, is_lasting};
-use vec_steps::{LOG_ROOM, StepFault};
+use vec_steps::StepFault;
 
 /// The answer to what never comes over a base: an event that the rules do not allow.
 pub fn not_allowed() -> StepFault

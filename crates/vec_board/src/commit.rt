@@ -7,13 +7,12 @@ ghost use Rattle.history_tables.specs.Telling.{IsToldEnd};
 ghost use Rattle.history_tables.specs.Rooms.{room_in_all, spent};
 ghost use Rattle.page_bytes.specs.Content.{Content};
 ghost use Rattle.page_redo.specs.Growing.{blocks_after};
-ghost use Rattle.page_log.specs.declared.limits.TheConstants.{MOST_USED};
+ghost use Rattle.index_sizes.specs.declared.limits.TheConstants.{LOG_ROOM};
 ghost use Rattle.page_log.specs.Parts.{newer_of, unsettled};
 ghost use Rattle.vec_steps.specs.declared.fault.StepFault.TheVariants.{Memory};
 ghost use Rattle.vec_steps.specs.Index.{Index};
 ghost use Rattle.vec_board.specs.Keeping.{one_if_ends};
 ghost use Rattle.vec_board.specs.Ready.{IsReady, HasOwnRoom};
-ghost use Rattle.vec_steps.specs.declared.room.TheConstants.{LOG_ROOM};
 ghost use Rattle.vec_steps.specs.Desks.{used_after};
 ghost use Rattle.vec_board.specs.Standing.{acts_of};
 ghost use Rattle.vec_board.specs.Acting.{IsMade, IsAsBefore, IsLogReady, IsPrepared, IsCommitFault, ComesTo, PagesComeTo, MayCommit};
@@ -30,7 +29,7 @@ use vec_steps::StepFault;
 // The log with a lasting event more, for which it has room and spare.
 fn log_event(log: &mut Log, event: &Event)
     requires written { is_lasting event.now ≡ true → IsWritable event.now }
-    requires room { is_lasting event.now ≡ true → (newer_of log.old).used + (length (spelling event.now) + 5) ≤ MOST_USED }
+    requires room { is_lasting event.now ≡ true → (newer_of log.old).used + (length (spelling event.now) + 5) ≤ LOG_ROOM }
     requires spare { is_lasting event.now ≡ true → 1 ≤ log.old.spare }
     ensures log { unsettled log.new ≡ log_after (unsettled log.old) event.now }
     ensures spare { log.old.spare ≤ log.new.spare + (if is_lasting event.now then 1 else 0) }
@@ -120,7 +119,7 @@ impl Core {
         requires log { IsLogReady self.old desk event }
         requires ends { one_if_ends event ≡ 1 → IsToldEnd self.old.history.tables desk event }
         requires written { is_lasting event ≡ true → IsWritable event }
-        requires room { is_lasting event ≡ true → (newer_of self.old.log).used + (length (spelling event) + 5) ≤ MOST_USED }
+        requires room { is_lasting event ≡ true → (newer_of self.old.log).used + (length (spelling event) + 5) ≤ LOG_ROOM }
         requires few { is_lasting event ≡ true → blocks_after event self.old.summary.blocks < 2 ^ 32 }
         ensures made { IsMade self.old self.new desk event left }
         ensures number { self.old.number < 2 ^ 64 }

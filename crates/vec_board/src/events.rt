@@ -121,6 +121,7 @@ pub fn take_event(ask: &mut Ask, making: Making) -> Event
 pub fn given_back(event: Event, rest: Rest) -> Ask
     ensures { result ≡ back_of event rest }
 {
+    // One arm for each event that an ask may bring.
     match event {
         Event::Put {
             level,

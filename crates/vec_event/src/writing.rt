@@ -36,6 +36,7 @@ fn put_event(event: &Event, into: &mut Vec<u8>)
     ensures items { into.new.items ≡ into.old.items ++ spelling event.now }
     ensures capacity { vec_capacity into.old ≤ vec_capacity into.new }
 {
+    // One arm for each kind of event.
     match event {
         Event::Put {
             at,

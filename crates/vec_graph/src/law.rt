@@ -1,6 +1,7 @@
 //! What the definitions of the graph and of its histories mean: laws. A function here does no work.
 
-ghost use Rattle.std.specs.Prelude.{◌≡◌, ◌≢◌, ◌⊎◌, ℕ, ◌++◌, ◌∷◌, [], true, false, take, slice_get, Some, None, List, Bool, Option, ◌≤◌, ◌↔◌, ◌<◌, ◌+◌, ◌*◌, ◌-◌, filter, length, Contains};
+ghost use Rattle.std.specs.Prelude.{◌≡◌, ◌≢◌, ◌⊎◌, ℕ, ◌++◌, ◌∷◌, [], true, false, take, slice_get, Some, None, List, Bool, Option, ◌≤◌, ◌↔◌, ◌<◌};
+ghost use Rattle.std.specs.Prelude.{◌+◌, ◌*◌, ◌-◌, filter, length, Contains};
 ghost use Rattle.vec_names.specs.declared.tid.Tid.{Tid as Tids};
 ghost use Rattle.vec_names.specs.Levels.{most_level};
 ghost use Rattle.vec_history.specs.declared.event.Act.{Act};

@@ -3,7 +3,8 @@
 ghost use Rattle.std.specs.Prelude.{◌≡◌, ◌↔◌, ◌<◌, ◌≤◌, ◌^◌, IsTrue, find};
 ghost use Rattle.std.specs.FinMap as map;
 ghost use Rattle.vec_names.specs.Places.{tid_of};
-ghost use Rattle.vec_graph.specs.Places.{element_need, list_need, taken_on, room, last_off, greatest_off, next_off, fresh_at, fits_one_page, is_reusable, reused, together_on, apart_on, fresh_on, place_on, new_blocks, new_place};
+ghost use Rattle.vec_graph.specs.Places.{element_need, list_need, taken_on, room, last_off, greatest_off, next_off, fresh_at, fits_one_page};
+ghost use Rattle.vec_graph.specs.Places.{is_reusable, reused, together_on, apart_on, fresh_on, place_on, new_blocks, new_place};
 
 use crate::graph::Graph;
 use crate::node::Node;

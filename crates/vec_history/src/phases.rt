@@ -2,7 +2,8 @@
 
 ghost use Rattle.std.specs.Prelude.{◌≡◌, ◌↔◌, ℕ, IsTrue, IfSome, IfNone};
 ghost use Rattle.vec_history.specs.Acts.{NoneAfter};
-ghost use Rattle.vec_history.specs.Phases.{IsOfVacuum, PhaseSince, IsInPhase, IsAPhaseStanding, IsLastBarrier, IsDrop, IsRemoved, IsUngateAllowed, IsPhaseRemoveAllowed, IsPhaseRepairAllowed};
+ghost use Rattle.vec_history.specs.Phases.{IsOfVacuum, PhaseSince, IsInPhase, IsAPhaseStanding, IsLastBarrier, IsDrop, IsRemoved, IsUngateAllowed};
+ghost use Rattle.vec_history.specs.Phases.{IsPhaseRemoveAllowed, IsPhaseRepairAllowed};
 ghost use Rattle.vec_history.specs.Deciding.{IsActDrop, IsActOfVacuum, IsGivingBack, IsLast, IsTakingAlone, NoneOf};
 
 use crate::gates::hold_of;

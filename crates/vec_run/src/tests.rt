@@ -251,13 +251,32 @@ const ALONE: [(&[u8], &[u8]); 7] = [
     ),
     // A node takes ten rows, and a search answers them in their order.
     (
-        b"create hnsw hamming 4 m 2 ef 4\ninsert 1/1 0101 18446744073709551615\ninsert 1/2 0101 18446744073709551615\ninsert 1/3 0101 18446744073709551615\ninsert 1/4 0101 18446744073709551615\ninsert 1/5 0101 18446744073709551615\ninsert 1/6 0101 18446744073709551615\ninsert 1/7 0101 18446744073709551615\ninsert 1/8 0101 18446744073709551615\ninsert 1/9 0101 18446744073709551615\ninsert 1/10 0101 18446744073709551615\ninsert 1/11 0101 18446744073709551615\nsearch 0101 limit 20\n",
-        b"created blocks 1 entries 0\nput 1/1 level 0 version 1\njoined 1/1\njoined 1/1\njoined 1/1\njoined 1/1\njoined 1/1\njoined 1/1\njoined 1/1\njoined 1/1\njoined 1/1\nput 1/3 level 0 version 1\nhit 1/1 0\nhit 1/2 0\nhit 1/3 0\nhit 1/4 0\nhit 1/5 0\nhit 1/6 0\nhit 1/7 0\nhit 1/8 0\nhit 1/9 0\nhit 1/10 0\nhit 1/11 0\nhits 11\n",
+        b"create hnsw hamming 4 m 2 ef 4\ninsert 1/1 0101 18446744073709551615\n\
+          insert 1/2 0101 18446744073709551615\ninsert 1/3 0101 18446744073709551615\n\
+          insert 1/4 0101 18446744073709551615\ninsert 1/5 0101 18446744073709551615\n\
+          insert 1/6 0101 18446744073709551615\ninsert 1/7 0101 18446744073709551615\n\
+          insert 1/8 0101 18446744073709551615\ninsert 1/9 0101 18446744073709551615\n\
+          insert 1/10 0101 18446744073709551615\ninsert 1/11 0101 18446744073709551615\n\
+          search 0101 limit 20\n",
+        b"created blocks 1 entries 0\nput 1/1 level 0 version 1\njoined 1/1\njoined 1/1\n\
+          joined 1/1\njoined 1/1\njoined 1/1\njoined 1/1\njoined 1/1\njoined 1/1\njoined 1/1\n\
+          put 1/3 level 0 version 1\nhit 1/1 0\nhit 1/2 0\nhit 1/3 0\nhit 1/4 0\nhit 1/5 0\n\
+          hit 1/6 0\nhit 1/7 0\nhit 1/8 0\nhit 1/9 0\nhit 1/10 0\nhit 1/11 0\nhits 11\n",
     ),
     // The same of a value without a 1, by Jaccard.
     (
-        b"create hnsw jaccard 4 m 2 ef 4\ninsert 1/1 0000 18446744073709551615\ninsert 1/2 0000 18446744073709551615\ninsert 1/3 0000 18446744073709551615\ninsert 1/4 0000 18446744073709551615\ninsert 1/5 0000 18446744073709551615\ninsert 1/6 0000 18446744073709551615\ninsert 1/7 0000 18446744073709551615\ninsert 1/8 0000 18446744073709551615\ninsert 1/9 0000 18446744073709551615\ninsert 1/10 0000 18446744073709551615\ninsert 1/11 0000 18446744073709551615\nsearch 0000 limit 20\n",
-        b"created blocks 1 entries 0\nput 1/1 level 0 version 1\njoined 1/1\njoined 1/1\njoined 1/1\njoined 1/1\njoined 1/1\njoined 1/1\njoined 1/1\njoined 1/1\njoined 1/1\nput 1/3 level 0 version 1\nhit 1/1 1/1\nhit 1/2 1/1\nhit 1/3 1/1\nhit 1/4 1/1\nhit 1/5 1/1\nhit 1/6 1/1\nhit 1/7 1/1\nhit 1/8 1/1\nhit 1/9 1/1\nhit 1/10 1/1\nhit 1/11 1/1\nhits 11\n",
+        b"create hnsw jaccard 4 m 2 ef 4\ninsert 1/1 0000 18446744073709551615\n\
+          insert 1/2 0000 18446744073709551615\ninsert 1/3 0000 18446744073709551615\n\
+          insert 1/4 0000 18446744073709551615\ninsert 1/5 0000 18446744073709551615\n\
+          insert 1/6 0000 18446744073709551615\ninsert 1/7 0000 18446744073709551615\n\
+          insert 1/8 0000 18446744073709551615\ninsert 1/9 0000 18446744073709551615\n\
+          insert 1/10 0000 18446744073709551615\ninsert 1/11 0000 18446744073709551615\n\
+          search 0000 limit 20\n",
+        b"created blocks 1 entries 0\nput 1/1 level 0 version 1\njoined 1/1\njoined 1/1\n\
+          joined 1/1\njoined 1/1\njoined 1/1\njoined 1/1\njoined 1/1\njoined 1/1\njoined 1/1\n\
+          put 1/3 level 0 version 1\nhit 1/1 1/1\nhit 1/2 1/1\nhit 1/3 1/1\nhit 1/4 1/1\n\
+          hit 1/5 1/1\nhit 1/6 1/1\nhit 1/7 1/1\nhit 1/8 1/1\nhit 1/9 1/1\nhit 1/10 1/1\n\
+          hit 1/11 1/1\nhits 11\n",
     ),
 ];
 

@@ -9,7 +9,7 @@ use Rattle.vec_history.specs.Acts.{act_of, IsRising}
 use Rattle.vec_history.specs.Gates.{Holds}
 use Rattle.vec_history.specs.Settling.{is_lasting, lasting_events}
 use Rattle.graph_search.specs.Deeds.{Deed, looked, asked, Takes, Releases, IsMadeAt, own_events}
-use Rattle.vec_steps.specs.declared.room.TheConstants.{LOG_ROOM}
+use Rattle.index_sizes.specs.declared.limits.TheConstants.{LOG_ROOM}
 use Rattle.vec_steps.specs.declared.ask.Ask.{Ask}
 use Rattle.vec_steps.specs.declared.told.Told.{Told}
 use Rattle.vec_steps.specs.declared.fault.StepFault.{StepFault}

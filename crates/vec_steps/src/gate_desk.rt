@@ -56,7 +56,8 @@ impl GateDesk {
 }
 
 impl Steps for GateDesk {
-    ghost use Rattle.vec_steps.specs.Turns.{turn_desk, turn_seen, turn_stands, turn_comes, turn_shaped, turn_index, turn_legal, turn_counted, turn_itself, turn_on};
+    ghost use Rattle.vec_steps.specs.Turns.{turn_desk, turn_seen, turn_stands, turn_comes, turn_shaped, turn_index, turn_legal, turn_counted};
+    ghost use Rattle.vec_steps.specs.Turns.{turn_itself, turn_on};
 
     ghost desk = { turn_desk };
 

@@ -209,7 +209,8 @@ fn front(count: usize, slots: &[Option<Tid>]) -> &[Option<Tid>]
 
 impl Steps for StillDesk {
     ghost use Rattle.std.specs.Prelude.{[], ◌≡◌};
-    ghost use Rattle.vec_steps.specs.Still.{still_desk, still_stands, still_comes, still_shaped, still_index, still_legal, still_counted, still_itself, still_on};
+    ghost use Rattle.vec_steps.specs.Still.{still_desk, still_stands, still_comes, still_shaped, still_index, still_legal, still_counted};
+    ghost use Rattle.vec_steps.specs.Still.{still_itself, still_on};
 
     ghost desk = { still_desk };
 

@@ -1,12 +1,12 @@
 use Rattle.std.proofs.Common.{◌≡◌, ◌+◌, ◌≤◌, ◌-◌, length, None}
 use Rattle.page_log.specs.Steps.{OnlyReads}
-use Rattle.page_log.specs.declared.limits.TheConstants.{MOST_USED}
+use Rattle.index_sizes.specs.declared.limits.TheConstants.{LOG_ROOM}
 use Rattle.page_log.proofs.Runs.{IsRun}
 use Rattle.page_log.proofs.log_reading.read_batches.Given as goal
 
 abbrev pub invariant-loop-run : goal.invariant-loop-run
 invariant-loop-run g l = record {
-  used : l.run.used ≤ MOST_USED;
+  used : l.run.used ≤ LOG_ROOM;
   end : (l.at ≤ l.run.end) × (l.run.end ≤ l.at + l.run.used);
   fine : l.run.bad ≡ None;
   size : g.D.Disks.told → l.size ≡ length ((g.D.Disks.disk l.fn.disks).seen l.area);
