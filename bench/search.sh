@@ -9,7 +9,7 @@ set -eu
 . bench/program.sh
 work="${SEARCH_FOLDER:-$(mktemp -d)}"
 first="40 0"
-crates=$(crates_below $(sed -n 's/^board_scans: //p' crates.txt))
+crates=$(crates_below $(sed -n 's/^operation_runs: //p' crates.txt))
 proofs="$work/crates/search_bench/proofs"
 mkdir -p "$proofs/search_all" "$proofs/search_often" "$proofs/insert_some" "$proofs/search_one"
 cat > "$proofs/search_all/Invariants.antt" <<'ANTT'

@@ -22,6 +22,7 @@ use vec_steps::{Ask, NewNode};
 pub fn may_ask(course: &Course<'_>, desk: u32, ask: &Ask) -> bool
     ensures { IsTrue result ↔ MayAskNodes course.now.base.now course.now.acts.now desk ask.now }
 {
+    // One arm for each ask.
     match ask {
         Ask::Spent => true,
         Ask::Reserve { .. } => true,

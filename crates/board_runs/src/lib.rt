@@ -10,4 +10,6 @@ mod core_tests;
 #[cfg(test)]
 mod look_tests;
 #[cfg(test)]
+mod replay_tests;
+#[cfg(test)]
 mod turn_tests;

@@ -86,8 +86,8 @@ fn desk_with(alloc: Global, groups: Groups) -> Result<Meddled<MemDisks>, Fail>
 
 // ---- what others ask, in few words
 
-/// An ask of a node of level 0 on block 1, which is named by the offset of its element; its list stands at the next one. The offset 0
-/// names none.
+/// An ask of a node of level 0, which is named by the offset of its element on block 1, and by 100 more on block 2; its list stands at
+/// the next offset. The number 0 names none.
 #[derive(Clone, Copy)]
 enum Move {
     Take(Gate, Hold),
@@ -96,16 +96,18 @@ enum Move {
     End,
     /// A row with this offset and this value, at a new node that names two others.
     Put(u16, &'static str, [u16; 2]),
+    /// The same on a new block.
+    PutNew(u16, &'static str, [u16; 2]),
     Enter(u16),
     Join(u16),
     /// This slot, which names none, comes to name a node.
     Link(u16, u16, u16),
-    /// All slots name none any more, but for the first.
-    Relist(u16, u16),
-    /// The only row of a node of version 1.
-    Drop(u16),
-    /// A node of version 1.
-    Mark(u16),
+    /// The slots come to name these two and no other.
+    Relist(u16, [u16; 2]),
+    /// The only row of a node of this version.
+    Drop(u16, u8),
+    /// A node of this version.
+    Mark(u16, u8),
 }
 
 /// The gate Update, shared.
@@ -123,10 +125,16 @@ const VACUUM: Move = Move::Take(Gate::Vacuum, Hold::Alone);
 /// The gate of vacuums is given back.
 const GIVE_VACUUM: Move = Move::Give(Gate::Vacuum);
 
-fn tid(off: u16) -> Tid {
+fn tid(number: u16) -> Tid {
+    if number > 100 {
+        return Tid {
+            block: 2,
+            off: number - 100,
+        };
+    }
     Tid {
         block: 1,
-        off: off.max(1),
+        off: number.max(1),
     }
 }
 
@@ -141,8 +149,8 @@ fn slots(alloc: Global, names: [u16; 2]) -> Result<Listed<Option<Tid>>, Fail> {
     Ok(slots)
 }
 
-fn put(alloc: Global, row: u16, text: &str, names: [u16; 2]) -> Result<Ask, Fail> {
-    let node = NewNode {
+fn new_node(alloc: Global, row: u16, text: &str, names: [u16; 2]) -> Result<NewNode, Fail> {
+    Ok(NewNode {
         level: 0,
         id: HeapId {
             block: 1,
@@ -150,8 +158,7 @@ fn put(alloc: Global, row: u16, text: &str, names: [u16; 2]) -> Result<Ask, Fail
         },
         bits: read_bits(alloc, text)?,
         lists: slots(alloc, names)?,
-    };
-    Ok(Ask::Put { block: 1, node })
+    })
 }
 
 fn link(off: u16, slot: u16, to: u16) -> Ask {
@@ -167,12 +174,12 @@ fn link(off: u16, slot: u16, to: u16) -> Ask {
     }
 }
 
-fn relist(alloc: Global, off: u16, to: u16) -> Result<Ask, Fail> {
+fn relist(alloc: Global, off: u16, names: [u16; 2]) -> Result<Ask, Fail> {
     Ok(Ask::Relist {
         at: tid(off),
         list_at: tid(off.saturating_add(1)),
         version: 1,
-        lists: slots(alloc, [to, 0])?,
+        lists: slots(alloc, names)?,
     })
 }
 
@@ -192,15 +199,15 @@ fn small_ask(one: Move) -> Ask {
             id: HeapId { block: 6, off: 1 },
         },
         Move::Link(off, slot, to) => link(off, slot, to),
-        Move::Drop(off) => Ask::Drop {
+        Move::Drop(off, version) => Ask::Drop {
             at: tid(off),
-            version: 1,
+            version,
             gone: 1,
         },
-        Move::Mark(off) => Ask::Mark {
+        Move::Mark(off, version) => Ask::Mark {
             at: tid(off),
             list_at: tid(off.saturating_add(1)),
-            version: 1,
+            version,
         },
         _ => Ask::EndVacuum,
     }
@@ -208,8 +215,14 @@ fn small_ask(one: Move) -> Ask {
 
 fn ask_of(alloc: Global, one: Move) -> Result<Ask, Fail> {
     match one {
-        Move::Put(row, text, names) => put(alloc, row, text, names),
-        Move::Relist(off, to) => relist(alloc, off, to),
+        Move::Put(row, text, names) => Ok(Ask::Put {
+            block: 1,
+            node: new_node(alloc, row, text, names)?,
+        }),
+        Move::PutNew(row, text, names) => Ok(Ask::PutNew {
+            node: new_node(alloc, row, text, names)?,
+        }),
+        Move::Relist(off, names) => relist(alloc, off, names),
         _ => Ok(small_ask(one)),
     }
 }

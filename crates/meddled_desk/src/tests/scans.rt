@@ -99,17 +99,27 @@ fn ends_unmarked(
 }
 
 /// 1/1 and 1/5 come to name each other and nothing else.
-const AROUND: [Move; 4] = [SHARED, Move::Relist(1, 5), Move::Relist(5, 1), GIVE];
+const AROUND: [Move; 4] = [
+    SHARED,
+    Move::Relist(1, [5, 0]),
+    Move::Relist(5, [1, 0]),
+    GIVE,
+];
 
 /// The gate of scans is taken alone and given back, and 1/3 is marked.
-const MARKS: [Move; 4] = [SCANS, GIVE_SCANS, Move::Begin(Stage::Mark), Move::Mark(3)];
+const MARKS: [Move; 4] = [
+    SCANS,
+    GIVE_SCANS,
+    Move::Begin(Stage::Mark),
+    Move::Mark(3, 1),
+];
 
 /// A vacuum of desk 2 whose last pass is to come into the first batch of two elements: its asks before the steps 6 and 9, which is the
 /// release, are passed over, and it goes on before the next batch.
 const HELD_OFF: [Before; 8] = [
     (1, 1, &THREE),
     (2, 2, &[VACUUM, Move::Begin(Stage::Remove)]),
-    (3, 2, &[Move::Drop(3)]),
+    (3, 2, &[Move::Drop(3, 1)]),
     (4, 2, &[ALONE, GIVE, Move::Begin(Stage::Repair)]),
     (5, 2, &AROUND),
     (6, 2, &MARKS),
@@ -223,12 +233,12 @@ fn what_is_nearer_is_left_out(rt: HostRuntime) -> Result<(), Fail> {
 const USED_ANEW: [Before; 9] = [
     (1, 1, &THREE),
     (2, 2, &[VACUUM, Move::Begin(Stage::Remove)]),
-    (6, 2, &[Move::Drop(3)]),
+    (6, 2, &[Move::Drop(3, 1)]),
     (7, 2, &[ALONE, GIVE, Move::Begin(Stage::Repair)]),
     (7, 2, &MARKS),
     (8, 2, &AROUND),
     (8, 2, &[SCANS, GIVE_SCANS, Move::Begin(Stage::Mark)]),
-    (9, 2, &[Move::Mark(3)]),
+    (9, 2, &[Move::Mark(3, 1)]),
     (10, 2, &[Move::End, GIVE_VACUUM]),
 ];
 
@@ -243,12 +253,17 @@ const ANEW: [Move; 5] = [
 
 /// The first batch has row 1 at 0. The second one takes 1/3, which is gone: no row, and not the last. The third takes 1/5, whose list
 /// names 1/3, which is not read a second time; its row 3 is at 3. The fourth is the last.
-fn goes_on_anew<S: Steps>(alloc: Global, steps: &mut S, state: &mut ScanState) -> Result<(), Fail>
+fn goes_on_anew<S: Steps>(
+    alloc: Global,
+    steps: &mut S,
+    state: &mut ScanState,
+    reads: &[u64],
+) -> Result<(), Fail>
     requires gates { HoldsNone (S.seen steps.old) (S.desk steps.old).number }
     requires unused { IsUnused state.old }
     requires mode { GoesOn (wanted_of state.old).mode }
 {
-    begins(alloc, steps, state, &[(1, 0)], &[12, 12, 12, 12, 13])?;
+    begins(alloc, steps, state, &[(1, 0)], reads)?;
     goes_on(alloc, steps, state, &[], 2, false)?;
     goes_on(alloc, steps, state, &[(3, 3)], 2, false)?;
     goes_on(alloc, steps, state, &[], 0, true)
@@ -262,7 +277,7 @@ fn is_used_anew(alloc: Global, mode: Mode) -> Result<(), Fail>
     add_before(alloc, &mut groups, &(11, 3, &ANEW))?;
     let mut desk = desk_with(alloc, groups)?;
     let mut state = scan(alloc, 1, mode)?;
-    goes_on_anew(alloc, &mut desk, &mut state)?;
+    goes_on_anew(alloc, &mut desk, &mut state, &[12, 12, 12, 12, 13])?;
     ends_unmarked(alloc, desk, &[(1, 9), (2, 16), (3, 5), (0, 8)], 17)
 }
 
@@ -276,4 +291,139 @@ fn a_place_is_used_anew(rt: HostRuntime) -> Result<(), Fail> {
 #[test]
 fn a_place_is_used_anew_in_order(rt: HostRuntime) -> Result<(), Fail> {
     is_used_anew(rt.alloc(), Mode::Strict)
+}
+
+/// A vacuum of desk 2 that takes away 1/3, of this version.
+fn removal(version: u8) -> [Move; 16] {
+    [
+        VACUUM,
+        Move::Begin(Stage::Remove),
+        Move::Drop(3, version),
+        ALONE,
+        GIVE,
+        Move::Begin(Stage::Repair),
+        SHARED,
+        Move::Relist(1, [5, 0]),
+        Move::Relist(5, [1, 0]),
+        GIVE,
+        SCANS,
+        GIVE_SCANS,
+        Move::Begin(Stage::Mark),
+        Move::Mark(3, version),
+        Move::End,
+        GIVE_VACUUM,
+    ]
+}
+
+/// Fifteen times desk 2 takes away 1/3, and desk 3 inserts at that place.
+fn add_rounds(alloc: Global, group: &mut Vec<(u32, Ask)>) -> Result<(), Fail> {
+    for version in 1..16u8 {
+        add(alloc, group, 2, &removal(version))?;
+        add(alloc, group, 3, &ANEW)?;
+    }
+    Ok(())
+}
+
+/// Three nodes, and then, before the eighth step, those fifteen rounds.
+fn with_rounds(alloc: Global) -> Result<Groups, Fail> {
+    let mut groups = groups_of(alloc, &[(1, 1, &THREE), (8, 1, &[])])?;
+    let Some(group) = groups.last_mut() else {
+        return Err(Fail::new("eight groups"));
+    };
+    add_rounds(alloc, group)?;
+    Ok(groups)
+}
+
+/// The last node that was put has this version.
+fn is_last_put(acts: &[Act], wanted: u8) -> bool {
+    let mut last = 0;
+    for act in acts {
+        if let Event::Put { version, .. } = act.event {
+            last = version;
+        }
+    }
+    last == wanted
+}
+
+/// The acts are legal, each of these desks made so many, and the last node put has this version.
+fn ends_with_version(
+    alloc: Global,
+    desk: Meddled<MemDisks>,
+    wanted: &[(u32, usize)],
+    version: u8,
+) -> Result<(), Fail> {
+    let board = desk.into_board();
+    if !is_last_put(board.acts(), version) {
+        return Err(Fail::new("another version"));
+    }
+    are_counted(board.acts(), wanted)?;
+    are_legal(alloc, board.acts())
+}
+
+/// The place 1/3 is removed and used again fifteen times between the first batch and the next: its version is 16, and what was found there
+/// is gone all the same.
+#[test]
+fn a_place_is_used_anew_fifteen_times(rt: HostRuntime) -> Result<(), Fail> {
+    let alloc = rt.alloc();
+    let mut desk = desk_with(alloc, with_rounds(alloc)?)?;
+    let mut state = scan(alloc, 1, Mode::Relaxed)?;
+    goes_on_anew(alloc, &mut desk, &mut state, &[10, 10, 10, 10, 10])?;
+    ends_with_version(alloc, desk, &[(1, 9), (2, 240), (3, 75), (0, 8)], 16)
+}
+
+/// A vacuum of desk 2 of row 2, at 1/3. Desk 3 holds Update before, and puts on the new block 2, after the Drop, a node that names 1/3: so
+/// the vacuum waits. It repairs 1/1 and 1/5 first; while 2/1 still names 1/3 it may not begin to mark. Then it repairs that node too.
+const ON_A_NEW_BLOCK: [Before; 9] = [
+    (1, 1, &THREE),
+    (1, 3, &[SHARED]),
+    (
+        1,
+        2,
+        &[VACUUM, Move::Begin(Stage::Remove), Move::Drop(3, 1)],
+    ),
+    (1, 2, &[ALONE, GIVE, Move::Begin(Stage::Repair)]),
+    (1, 3, &[Move::PutNew(4, "0010", [3, 0]), GIVE]),
+    (1, 2, &[ALONE, GIVE, Move::Begin(Stage::Repair)]),
+    (
+        1,
+        2,
+        &[
+            SHARED,
+            Move::Relist(1, [5, 101]),
+            Move::Relist(5, [1, 0]),
+            GIVE,
+        ],
+    ),
+    (1, 2, &MARKS),
+    (1, 2, &[SHARED, Move::Relist(101, [1, 0]), GIVE]),
+];
+
+/// The last pass of that vacuum, and its end.
+const MARK_AND_END: [Move; 6] = [
+    SCANS,
+    GIVE_SCANS,
+    Move::Begin(Stage::Mark),
+    Move::Mark(3, 1),
+    Move::End,
+    GIVE_VACUUM,
+];
+
+/// A first batch over what that vacuum left meets no node that is gone: it looks at the meta tuple, at 1/1 and its list, at 1/5 and 2/1,
+/// and at the lists of 2/1 and 1/5, and has the rows 1, 4 and 3 at 0, 1 and 3.
+#[test]
+fn a_node_on_a_new_block_is_repaired(rt: HostRuntime) -> Result<(), Fail> {
+    let alloc = rt.alloc();
+    let mut groups = groups_of(alloc, &ON_A_NEW_BLOCK)?;
+    add_before(alloc, &mut groups, &(1, 2, &MARK_AND_END))?;
+    let mut desk = desk_with(alloc, groups)?;
+    let mut state = scan(alloc, 4, Mode::Off)?;
+    let rows = [(1, 0), (4, 1), (3, 3)];
+    begins(
+        alloc,
+        &mut desk,
+        &mut state,
+        &rows,
+        &[34, 34, 34, 34, 34, 34, 34],
+    )?;
+    ends(alloc, desk, &[(1, 9), (2, 21), (3, 3), (0, 2)])
 }

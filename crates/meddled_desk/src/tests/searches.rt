@@ -140,7 +140,7 @@ fn a_doomed_element_is_walked_through(rt: HostRuntime) -> Result<(), Fail> {
         &[
             (1, 1, &CHAIN),
             (2, 2, &[VACUUM, Move::Begin(Stage::Remove)]),
-            (4, 2, &[Move::Drop(3)]),
+            (4, 2, &[Move::Drop(3, 1)]),
         ],
     )?;
     let wanted = [(1, 1), (5, 2)];
@@ -152,18 +152,18 @@ fn a_doomed_element_is_walked_through(rt: HostRuntime) -> Result<(), Fail> {
 const WITHOUT_LAST: [Move; 16] = [
     VACUUM,
     Move::Begin(Stage::Remove),
-    Move::Drop(5),
+    Move::Drop(5, 1),
     ALONE,
     GIVE,
     Move::Begin(Stage::Repair),
     SHARED,
-    Move::Relist(1, 3),
-    Move::Relist(3, 1),
+    Move::Relist(1, [3, 0]),
+    Move::Relist(3, [1, 0]),
     GIVE,
     SCANS,
     GIVE_SCANS,
     Move::Begin(Stage::Mark),
-    Move::Mark(5),
+    Move::Mark(5, 1),
     Move::End,
     GIVE_VACUUM,
 ];
@@ -200,9 +200,9 @@ fn a_place_used_anew_is_read_anew(rt: HostRuntime) -> Result<(), Fail> {
 const WITHOUT_ALL: [Move; 19] = [
     VACUUM,
     Move::Begin(Stage::Remove),
-    Move::Drop(1),
-    Move::Drop(3),
-    Move::Drop(5),
+    Move::Drop(1, 1),
+    Move::Drop(3, 1),
+    Move::Drop(5, 1),
     ALONE,
     GIVE,
     Move::Begin(Stage::Repair),
@@ -212,9 +212,9 @@ const WITHOUT_ALL: [Move; 19] = [
     SCANS,
     GIVE_SCANS,
     Move::Begin(Stage::Mark),
-    Move::Mark(1),
-    Move::Mark(3),
-    Move::Mark(5),
+    Move::Mark(1, 1),
+    Move::Mark(3, 1),
+    Move::Mark(5, 1),
     Move::End,
     GIVE_VACUUM,
 ];

@@ -1,9 +1,0 @@
-use Rattle.std.proofs.Common.{sym, subst}
-use Rattle.vec_steps.specs.Desks.{Desk}
-use Rattle.vec_steps.specs.Calls.{HoldsNone}
-use Rattle.board_scans.proofs.scans.begins.Goals as goal
-
-pub returns-clause-gates : goal.returns-clause-gates
-returns-clause-gates g c =
-    subst (λ (d : Desk). HoldsNone (g.S.Steps.seen c.first.new.steps) d.number) (sym c.in_ok-batch.ensures.goes.stays)
-    c.in_ok-batch.ensures.free

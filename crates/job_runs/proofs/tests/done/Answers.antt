@@ -1,9 +1,0 @@
-use Rattle.std.proofs.Common.{sym, subst}
-use Rattle.vec_steps.specs.Desks.{Desk}
-use Rattle.vec_steps.specs.Calls.{HoldsNone}
-use Rattle.job_runs.proofs.tests.done.Goals as goal
-
-pub returns : goal.returns
-returns g c = record {
-  gates = subst (λ (d : Desk). HoldsNone (g.S.Steps.seen c.one.new.steps) d.number) (sym c.one.ensures.goes.stays) c.in_ok-one.ensures.gates;
-}

@@ -1,5 +1,0 @@
-//! Commands of a script over a desk that is alone at a board: their tests.
-#![tactic(auto)]
-
-#[cfg(test)]
-mod tests;
