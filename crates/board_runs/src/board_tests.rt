@@ -115,6 +115,19 @@ pub fn put_by_7(alloc: Global, board: &mut Board<MemDisks>, told: &mut Told) -> 
     Ok(())
 }
 
+/// An ask that was spent is done, and nothing happens.
+#[test]
+fn a_spent_ask(rt: HostRuntime) -> Result<(), Fail> {
+    let alloc = rt.alloc();
+    let mut board = board(alloc, 0, Vec::new(alloc))?;
+    let mut told = told_of(alloc)?;
+    put_by_7(alloc, &mut board, &mut told)?;
+    let (word, at, is_spent) = ask(&mut board, 7, &mut told, Ask::Spent)?;
+    assert!(rt; word == Word::Done && at == 2 && is_spent);
+    assert!(rt; board.acts().len() == 2);
+    Ok(())
+}
+
 /// It comes by the event of number 5 on block 2, with its list beside it.
 #[test]
 fn a_node_on_a_new_block(rt: HostRuntime) -> Result<(), Fail> {

@@ -53,8 +53,16 @@ pub fn list_core(alloc: Global) -> Core
     ensures blocks { result.summary.blocks ≡ 3 }
     ensures bits { result.params.bits ≡ 4 }
 {
+    list_core_of(alloc, 3)
+}
+
+/// The same, of an index with so many blocks.
+fn list_core_of(alloc: Global, blocks: u32) -> Core
+    ensures blocks { result.summary.blocks ≡ blocks }
+    ensures bits { result.params.bits ≡ 4 }
+{
     let summary = Summary {
-        blocks: 3,
+        blocks,
         entry: None,
         level: 0,
         hint: 0,
@@ -436,6 +444,34 @@ fn a_full_board(rt: HostRuntime) -> Result<(), Fail> {
     let told = told_by(alloc, &mut core, &mut pages, &mut more)?;
     assert!(rt; told.word == Word::Full && told.blocks == MOST_BLOCKS && told.need == 1);
     assert!(rt; is_new_node(&more) && core.acts().len() == 1 && pages.pages.len() == 32768);
+    Ok(())
+}
+
+/// So many pages: that of one list, and empty ones.
+fn many_list_pages(alloc: Global, count: u32) -> Result<PageList, Fail>
+    ensures { IfOk result (λ pages. vec_len pages.pages ≡ count) }
+{
+    let PageList { mut pages } = list_pages(alloc)?;
+    for _ in 3..count {
+        pages.push(Page::fresh(PageKind::IvfEntries))?;
+    }
+    if pages.len() != count as usize {
+        return Err(Fail::new("a page for each block"));
+    }
+    Ok(PageList { pages })
+}
+
+/// A list does not grow where an index has as many blocks as it may.
+#[test]
+fn a_list_on_a_full_board(rt: HostRuntime) -> Result<(), Fail> {
+    let alloc = rt.alloc();
+    let mut pages = many_list_pages(alloc, MOST_BLOCKS)?;
+    let mut core = list_core_of(alloc, MOST_BLOCKS);
+    let mut more = extend(alloc)?;
+    let told = told_by(alloc, &mut core, &mut pages, &mut more)?;
+    assert!(rt; told.word == Word::Full && told.blocks == MOST_BLOCKS && told.need == 1);
+    assert!(rt; matches!(more, Ask::Extend { .. }));
+    assert!(rt; core.acts().is_empty() && core.number() == 5 && pages.pages.len() == 32768);
     Ok(())
 }
 
