@@ -4,6 +4,7 @@ ghost use Rattle.loaded_index.specs.Loading.{CanGoOn};
 ghost use Rattle.vec_board.specs.Standing.{acts_of};
 
 mod inserts;
+mod rows;
 mod scans;
 mod searches;
 

@@ -20,8 +20,6 @@ mod scan_desks;
 #[cfg(test)]
 mod scan_tests;
 #[cfg(test)]
-mod scans;
-#[cfg(test)]
 mod vacuum_tests;
 #[cfg(test)]
 mod vacuums;

@@ -1,64 +1,20 @@
-ghost use Rattle.std.specs.Prelude.{◌≡◌, ◌≤◌, IfOk, OnOk, length};
+ghost use Rattle.std.specs.Prelude.{IfOk};
 ghost use Rattle.graph_search.specs.Scan.{GoesOn};
 ghost use Rattle.vec_steps.specs.Calls.{HoldsNone};
-ghost use Rattle.hnsw_scan.specs.Scanning.{IsUnder, IsUnused, wanted_of};
+ghost use Rattle.hnsw_scan.specs.Scanning.{IsUnused, wanted_of};
 ghost use Rattle.vec_board.specs.Standing.{acts_of};
 
-use crate::scan_desks::{desk, put, put_three, small};
-use crate::scans::{Row, begins, finds, goes_on, scan};
-use crate::vacuums::{
-    at_rest, deletes, drops, ends, judged, leaves_none, marks, names_one, opens, repairs, told,
-};
+use crate::scan_desks::{desk, small};
+use crate::vacuums::{at_rest, judged};
 use hnsw_scan::{Mode, ScanState};
 use std::alloc::Global;
 use std::test::*;
 use vec_board::LoneDesk;
 use vec_names::Ops;
 use vec_outside::MemDisks;
-use vec_steps::{Steps, Told};
-
-// A vacuum that calls all three rows dead.
-fn all_go<S: Steps>(steps: &mut S, told: &mut Told) -> Result<(), Fail>
-    requires { length told.old.bits ≡ (S.desk steps.old).params.bits }
-{
-    opens(steps, told)?;
-    drops(steps, told, 1, 1)?;
-    drops(steps, told, 3, 1)?;
-    drops(steps, told, 5, 1)?;
-    repairs(steps, told)?;
-    leaves_none(steps, told)?;
-    marks(steps, told)?;
-    deletes(steps, told, 1, 1)?;
-    deletes(steps, told, 3, 1)?;
-    deletes(steps, told, 5, 1)?;
-    ends(steps, told)
-}
-
-// All events that last are settled, and they are so many.
-fn settles<S: Steps>(steps: &mut S, count: u64) -> Result<(), Fail> {
-    if steps.settle()? != count {
-        return Err(Fail::new("as many events that last"));
-    }
-    Ok(())
-}
-
-// Three rows came, and are found; and all go.
-fn come_and_go<S: Steps>(alloc: Global, steps: &mut S) -> Result<(), Fail>
-    requires gates { HoldsNone (S.seen steps.old) (S.desk steps.old).number }
-{
-    put_three(alloc, steps)?;
-    finds(alloc, steps, "0001", 4, &[(1, 1, 1), (2, 1, 1), (3, 2, 1)])?;
-    settles(steps, 7)?;
-    let mut told = told(alloc, steps)?;
-    all_go(steps, &mut told)
-}
-
-fn comes_again<S: Steps>(alloc: Global, steps: &mut S) -> Result<(), Fail>
-    requires gates { HoldsNone (S.seen steps.old) (S.desk steps.old).number }
-{
-    put(alloc, steps, "1111", 4, (1, 2))?;
-    settles(steps, 16)
-}
+use worked_rows::{
+    Row, begins, come_and_go, comes_again, middle_goes, put, put_three, scan, three_batches,
+};
 
 /// Three rows come by seven events: two for each of the first two, and three for the third. After a vacuum of all, which makes three
 /// Drops, an entry point that is none, and three Marks, the next row comes to the place of the first, with version 2. The judge finds
@@ -71,30 +27,6 @@ fn a_row_comes_after_all_went(rt: HostRuntime) -> Result<(), Fail> {
     let mut desk = at_rest(desk)?;
     comes_again(alloc, &mut desk)?;
     judged(alloc, small(Ops::Hamming), desk)
-}
-
-// A vacuum that calls the row at 1/3 dead, where the three nodes stand: the two others name each other alone.
-fn middle_goes<S: Steps>(alloc: Global, steps: &mut S, version: u8) -> Result<(), Fail> {
-    let mut told = told(alloc, steps)?;
-    middle_goes_by(alloc, steps, &mut told, version)
-}
-
-fn middle_goes_by<S: Steps>(
-    alloc: Global,
-    steps: &mut S,
-    told: &mut Told,
-    version: u8,
-) -> Result<(), Fail>
-    requires { length told.old.bits ≡ (S.desk steps.old).params.bits }
-{
-    opens(steps, told)?;
-    drops(steps, told, 3, version)?;
-    repairs(steps, told)?;
-    names_one(alloc, steps, told, 1, 5)?;
-    names_one(alloc, steps, told, 5, 1)?;
-    marks(steps, told)?;
-    deletes(steps, told, 3, version)?;
-    ends(steps, told)
 }
 
 // The row at 1/3 goes, and another with 0001 comes there, which makes the next version of the place.
@@ -131,21 +63,6 @@ fn used_often(
         version = next_version(version);
     }
     at_rest(desk)
-}
-
-fn three_batches<S: Steps>(
-    alloc: Global,
-    steps: &mut S,
-    state: &mut ScanState,
-    second: &[Row],
-) -> Result<(), Fail>
-    requires gates { HoldsNone (S.seen steps.old) (S.desk steps.old).number }
-    requires under { IsUnder state.old }
-    requires mode { GoesOn (wanted_of state.old).mode }
-{
-    goes_on(alloc, steps, state, second, false)?;
-    goes_on(alloc, steps, state, &[(3, 3, 1)], false)?;
-    goes_on(alloc, steps, state, &[], true)
 }
 
 // After a first batch with the row of 0000 the place 1/3 is used anew so many times. Then the second batch has these rows, the third

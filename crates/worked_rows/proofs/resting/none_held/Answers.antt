@@ -1,5 +1,5 @@
-use Rattle.operation_runs.proofs.Resting.{none_of_three}
-use Rattle.operation_runs.proofs.vacuums.none_held.Goals as goal
+use Rattle.worked_rows.proofs.NoGate.{none_of_three}
+use Rattle.worked_rows.proofs.resting.none_held.Goals as goal
 
 pub returns : goal.returns
 returns c =

@@ -2,8 +2,8 @@ use Rattle.std.proofs.Common.{subst, sym}
 use Rattle.vec_history.specs.declared.gate.Gate.TheVariants.{Update}
 use Rattle.vec_steps.specs.Desks.{Desk}
 use Rattle.vec_steps.specs.Calls.{HoldsNone}
-use Rattle.operation_runs.proofs.Resting.{none_after}
-use Rattle.operation_runs.proofs.scan_desks.insert_by.Goals as goal
+use Rattle.worked_rows.proofs.NoGate.{none_after}
+use Rattle.worked_rows.proofs.inserts.insert_by.Goals as goal
 
 pub insert-requires-clause-free : goal.insert-requires-clause-free
 insert-requires-clause-free g c = c.requires.gates Update

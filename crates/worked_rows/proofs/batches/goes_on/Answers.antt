@@ -1,7 +1,7 @@
 use Rattle.std.proofs.Common.{sym, subst}
 use Rattle.vec_steps.specs.Desks.{Desk}
 use Rattle.vec_steps.specs.Calls.{HoldsNone}
-use Rattle.operation_runs.proofs.scans.goes_on.Goals as goal
+use Rattle.worked_rows.proofs.batches.goes_on.Goals as goal
 
 pub returns-clause-gates : goal.returns-clause-gates
 returns-clause-gates g c =

@@ -1,0 +1,182 @@
+//! Worked examples of inserts and scans, while others take gates and give them back: what is found is what is found alone.
+
+ghost use Rattle.std.specs.Prelude.{◌≡◌, IfOk};
+ghost use Rattle.vec_names.specs.Params.{IsInRange};
+ghost use Rattle.vec_names.specs.declared.params.Kind.TheVariants.{Hnsw};
+ghost use Rattle.vec_steps.specs.Calls.{HoldsNone};
+ghost use Rattle.loaded_index.specs.Loading.{CanGoOn};
+ghost use Rattle.vec_board.specs.Standing.{acts_of};
+
+use super::*;
+use empty_index::empty_index;
+use hnsw_scan::Mode;
+use vec_names::{Kind, Ops, Params};
+use worked_rows::{
+    answered_later, common_places, eleven_equal, left_out, one_by_one, scan, three_are_found,
+    two_long,
+};
+
+/// The parameters of a graph of values of four places, with m 2 and ef 4.
+fn small(ops: Ops) -> Params
+    ensures range { IsInRange result }
+    ensures nodes { result.kind ≡ Hnsw }
+{
+    Params {
+        kind: Kind::Hnsw,
+        ops,
+        bits: 4,
+        m: 2,
+        ef: 4,
+        lists: 0,
+    }
+}
+
+/// Such an index without nodes, at the begin of its first epoch.
+fn new_index(alloc: Global, params: Params) -> Result<Loaded, Fail>
+    requires range { IsInRange params }
+    requires nodes { params.kind ≡ Hnsw }
+    ensures { IfOk result CanGoOn }
+{
+    Ok(Loaded {
+        pages: empty_index(alloc, params)?,
+        epoch: 1,
+        area: Area::Log0,
+        before: 0,
+        end: 40,
+        used: 0,
+        unwritten: Vec::new(alloc),
+    })
+}
+
+/// Before the steps of the desk others hold the gates of scans and of updates, shared, and give them back; what may not be asked is
+/// passed over.
+const BESIDE: [Before; 8] = [
+    (1, 2, &[Move::Take(Gate::Scan, Hold::Shared)]),
+    (2, 3, &[SHARED]),
+    (3, 2, &[Move::Give(Gate::Scan), Move::Enter(1)]),
+    (4, 3, &[GIVE]),
+    (9, 2, &[SHARED, Move::Take(Gate::Scan, Hold::Shared)]),
+    (14, 2, &[GIVE]),
+    (
+        20,
+        3,
+        &[Move::Take(Gate::Scan, Hold::Shared), Move::Give(Gate::Scan)],
+    ),
+    (21, 2, &[Move::Give(Gate::Scan)]),
+];
+
+/// A desk at a board of such an index, with those asks of others before its steps.
+fn beside(alloc: Global, params: Params) -> Result<Meddled<MemDisks>, Fail>
+    requires range { IsInRange params }
+    requires nodes { params.kind ≡ Hnsw }
+    ensures free { IfOk result (λ desk. HoldsNone (acts_of desk.board.core) 0) }
+{
+    let groups = groups_of(alloc, &BESIDE)?;
+    let log = vec![in alloc; 0; 40]?;
+    let other = vec![in alloc; 0; 40]?;
+    let disks = MemDisks::over(alloc, Vec::new(alloc), log, other, Vec::new(alloc));
+    let loaded = new_index(alloc, params)?;
+    if (disks.bytes(loaded.area).len() as u64) < loaded.end {
+        return Err(Fail::new("an area to the log's end"));
+    }
+    let Ok(base) = graph_of(alloc, loaded.pages.as_slice()) else {
+        return Err(Fail::new("pages of a graph"));
+    };
+    Ok(Meddled::over(
+        alloc,
+        Board::from_loaded(alloc, disks, loaded),
+        base,
+        groups,
+    ))
+}
+
+/// All acts are legal, and others made some of them.
+fn ends_beside(alloc: Global, params: Params, desk: Meddled<MemDisks>) -> Result<(), Fail>
+    requires range { IsInRange params }
+    requires nodes { params.kind ≡ Hnsw }
+{
+    let loaded = new_index(alloc, params)?;
+    let Ok(base) = graph_of(alloc, loaded.pages.as_slice()) else {
+        return Err(Fail::new("pages of a graph"));
+    };
+    let board = desk.into_board();
+    if count_of(board.acts(), 2) + count_of(board.acts(), 3) < 4 {
+        return Err(Fail::new("acts of others"));
+    }
+    Ok(audit_hnsw(alloc, &base, board.acts())?)
+}
+
+#[test]
+fn three_are_found_beside_others(rt: HostRuntime) -> Result<(), Fail> {
+    let alloc = rt.alloc();
+    let mut desk = beside(alloc, small(Ops::Hamming))?;
+    three_are_found(alloc, &mut desk)?;
+    ends_beside(alloc, small(Ops::Hamming), desk)
+}
+
+#[test]
+fn a_place_is_common_beside_others(rt: HostRuntime) -> Result<(), Fail> {
+    let alloc = rt.alloc();
+    let mut desk = beside(alloc, small(Ops::Jaccard))?;
+    common_places(alloc, &mut desk)?;
+    ends_beside(alloc, small(Ops::Jaccard), desk)
+}
+
+#[test]
+fn equal_values_beside_others(rt: HostRuntime) -> Result<(), Fail> {
+    let alloc = rt.alloc();
+    let mut desk = beside(alloc, small(Ops::Hamming))?;
+    eleven_equal(alloc, &mut desk, "0101", (0, 1))?;
+    ends_beside(alloc, small(Ops::Hamming), desk)
+}
+
+#[test]
+fn zeros_beside_others(rt: HostRuntime) -> Result<(), Fail> {
+    let alloc = rt.alloc();
+    let mut desk = beside(alloc, small(Ops::Jaccard))?;
+    eleven_equal(alloc, &mut desk, "0000", (1, 1))?;
+    ends_beside(alloc, small(Ops::Jaccard), desk)
+}
+
+#[test]
+fn the_longest_values_beside_others(rt: HostRuntime) -> Result<(), Fail> {
+    let alloc = rt.alloc();
+    let params = Params {
+        kind: Kind::Hnsw,
+        ops: Ops::Hamming,
+        bits: 64_000,
+        m: 16,
+        ef: 64,
+        lists: 0,
+    };
+    let mut desk = beside(alloc, params)?;
+    two_long(alloc, &mut desk)?;
+    ends_beside(alloc, params, desk)
+}
+
+#[test]
+fn batches_of_one_beside_others(rt: HostRuntime) -> Result<(), Fail> {
+    let alloc = rt.alloc();
+    let mut desk = beside(alloc, small(Ops::Hamming))?;
+    let mut state = scan(alloc, "0000", 1, Mode::Relaxed)?;
+    one_by_one(alloc, &mut desk, &mut state)?;
+    ends_beside(alloc, small(Ops::Hamming), desk)
+}
+
+#[test]
+fn a_nearer_row_is_answered_beside_others(rt: HostRuntime) -> Result<(), Fail> {
+    let alloc = rt.alloc();
+    let mut desk = beside(alloc, small(Ops::Hamming))?;
+    let mut state = scan(alloc, "0000", 1, Mode::Relaxed)?;
+    answered_later(alloc, &mut desk, &mut state)?;
+    ends_beside(alloc, small(Ops::Hamming), desk)
+}
+
+#[test]
+fn a_nearer_row_is_left_out_beside_others(rt: HostRuntime) -> Result<(), Fail> {
+    let alloc = rt.alloc();
+    let mut desk = beside(alloc, small(Ops::Hamming))?;
+    let mut state = scan(alloc, "0000", 1, Mode::Strict)?;
+    left_out(alloc, &mut desk, &mut state)?;
+    ends_beside(alloc, small(Ops::Hamming), desk)
+}
