@@ -100,7 +100,7 @@ fn ends_beside(alloc: Global, params: Params, desk: Meddled<MemDisks>) -> Result
         return Err(Fail::new("pages of a graph"));
     };
     let board = desk.into_board();
-    if count_of(board.acts(), 2) + count_of(board.acts(), 3) < 4 {
+    if count_of(board.acts(), 2) < 2 || count_of(board.acts(), 3) < 2 {
         return Err(Fail::new("acts of others"));
     }
     Ok(audit_hnsw(alloc, &base, board.acts())?)
