@@ -4,3 +4,4 @@ pub mod Nearest
 pub mod OverLists
 pub mod Chained
 pub mod Walked
+pub mod OverChains

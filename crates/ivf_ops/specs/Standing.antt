@@ -1,6 +1,5 @@
 -- Blocks that stand in the chains of an index of lists: so does a block that was told once, whatever acts come.
 use Rattle.std.specs.Prelude.{◌≡◌, ℕ, ⊤, List, slice_get, Option, Some, None}
-use Rattle.std.specs.List.{AllByRecursion}
 use Rattle.vec_history.specs.declared.event.Act.{Act}
 use Rattle.ivf_graph.specs.declared.list.IvfList.{IvfList}
 use Rattle.ivf_graph.specs.declared.graph.IvfGraph.{IvfGraph}
@@ -16,22 +15,14 @@ pub record IsChained (g : IvfGraph) (block : ℕ) : Type 0 where
   pub is_list : slice_get g.lists list ≡ Some of_list
   pub is : slice_get (numbers of_list) place ≡ Some block
 
--- these blocks do, after the acts; in a graph of nodes none does
-abbrev pub AreThere : List Act → List ℕ → Index → Type 0
-AreThere acts blocks (OfNodes base) = ⊥
-AreThere acts blocks (OfLists base) = AllByRecursion (IsChained (after base acts)) blocks
-
+-- the block does, after the acts; in a graph of nodes none does
 abbrev pub IsThere : List Act → Option ℕ → Index → Type 0
 IsThere acts None base = ⊤
 IsThere acts (Some block) (OfNodes base) = ⊥
 IsThere acts (Some block) (OfLists base) = IsChained (after base acts) block
 
--- The bases on which a desk stands and over which these blocks have places, as it was told: a premise of what a walk along chains
--- says, for each base by itself.
-pub record OverBlocks (stands : Index → Type 0) (acts : List Act) (blocks : List ℕ) (base : Index) : Type 0 where
-  pub stood : stands base
-  pub there : AreThere acts blocks base
-
+-- The bases on which a desk stands and over which this block has a place, as it was told: a premise of what a walk along a chain says,
+-- for each base by itself.
 pub record OverBlock (stands : Index → Type 0) (acts : List Act) (block : Option ℕ) (base : Index) : Type 0 where
   pub stood : stands base
   pub there : IsThere acts block base

@@ -16,7 +16,7 @@ mod near_order;
 
 pub use centres::{nearest_of, read_centres};
 pub use chains::walk_chain;
-pub use law::law_centres;
+pub use law::{law_centres, law_chain};
 pub use met::Met;
 pub use near::Near;
 
