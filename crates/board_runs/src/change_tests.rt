@@ -469,7 +469,7 @@ fn a_list_on_a_full_board(rt: HostRuntime) -> Result<(), Fail> {
     let mut core = list_core_of(alloc, MOST_BLOCKS);
     let mut more = extend(alloc)?;
     let told = told_by(alloc, &mut core, &mut pages, &mut more)?;
-    assert!(rt; told.word == Word::Full && told.blocks == MOST_BLOCKS && told.need == 1);
+    assert!(rt; told.word == Word::Full && told.next.is_none());
     assert!(rt; matches!(more, Ask::Extend { .. }));
     assert!(rt; core.acts().is_empty() && core.number() == 5 && pages.pages.len() == 32768);
     Ok(())
