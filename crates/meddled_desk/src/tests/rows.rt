@@ -1,18 +1,21 @@
 //! Worked examples of inserts and scans, while others take gates and give them back: what is found is what is found alone.
 
-ghost use Rattle.std.specs.Prelude.{◌≡◌, IfOk};
+ghost use Rattle.std.specs.Prelude.{◌≡◌, IfOk, OnOk};
 ghost use Rattle.vec_names.specs.Params.{IsInRange};
 ghost use Rattle.vec_names.specs.declared.params.Kind.TheVariants.{Hnsw};
+ghost use Rattle.graph_search.specs.Scan.{GoesOn};
 ghost use Rattle.vec_steps.specs.Calls.{HoldsNone};
+ghost use Rattle.hnsw_scan.specs.Scanning.{IsUnused, wanted_of};
 ghost use Rattle.loaded_index.specs.Loading.{CanGoOn};
 ghost use Rattle.vec_board.specs.Standing.{acts_of};
 
 use super::*;
 use empty_index::empty_index;
-use hnsw_scan::Mode;
+use hnsw_scan::{Mode, ScanState};
 use vec_names::{Kind, Ops, Params};
 use worked_rows::{
-    answered_later, common_places, eleven_equal, left_out, one_by_one, scan, three_are_found,
+    answered_later, begins, come_and_go, comes_again, common_places, eleven_equal, left_out,
+    middle_goes, none_held, one_by_one, put, put_three, scan, three_are_found, three_batches,
     two_long,
 };
 
@@ -50,7 +53,7 @@ fn new_index(alloc: Global, params: Params) -> Result<Loaded, Fail>
 
 /// Before the steps of the desk others hold the gates of scans and of updates, shared, and give them back; what may not be asked is
 /// passed over.
-const BESIDE: [Before; 8] = [
+const BESIDE: [Before; 14] = [
     (1, 2, &[Move::Take(Gate::Scan, Hold::Shared)]),
     (2, 3, &[SHARED]),
     (3, 2, &[Move::Give(Gate::Scan), Move::Enter(1)]),
@@ -63,6 +66,12 @@ const BESIDE: [Before; 8] = [
         &[Move::Take(Gate::Scan, Hold::Shared), Move::Give(Gate::Scan)],
     ),
     (21, 2, &[Move::Give(Gate::Scan)]),
+    (30, 3, &[SHARED]),
+    (34, 2, &[Move::Take(Gate::Scan, Hold::Shared)]),
+    (38, 3, &[GIVE]),
+    (45, 2, &[Move::Give(Gate::Scan), SHARED]),
+    (52, 2, &[GIVE, Move::Take(Gate::Scan, Hold::Shared)]),
+    (60, 2, &[Move::Give(Gate::Scan)]),
 ];
 
 /// A desk at a board of such an index, with those asks of others before its steps.
@@ -178,5 +187,54 @@ fn a_nearer_row_is_left_out_beside_others(rt: HostRuntime) -> Result<(), Fail> {
     let mut desk = beside(alloc, small(Ops::Hamming))?;
     let mut state = scan(alloc, "0000", 1, Mode::Strict)?;
     left_out(alloc, &mut desk, &mut state)?;
+    ends_beside(alloc, small(Ops::Hamming), desk)
+}
+
+/// The desk holds no gate, as a look at the acts tells.
+fn rests(desk: &Meddled<MemDisks>) -> Result<(), Fail>
+    ensures { OnOk result (HoldsNone (acts_of desk.now.board.core) 0) }
+{
+    if !none_held(desk.board.acts()) {
+        return Err(Fail::new("a desk without a gate"));
+    }
+    Ok(())
+}
+
+/// All rows go by a vacuum, and the next one takes the place of the first anew.
+#[test]
+fn a_row_comes_after_all_went_beside_others(rt: HostRuntime) -> Result<(), Fail> {
+    let alloc = rt.alloc();
+    let mut desk = beside(alloc, small(Ops::Hamming))?;
+    come_and_go(alloc, &mut desk)?;
+    rests(&desk)?;
+    comes_again(alloc, &mut desk)?;
+    ends_beside(alloc, small(Ops::Hamming), desk)
+}
+
+/// Between two batches the row at 1/3 goes, and another comes there.
+fn used_between(
+    alloc: Global,
+    desk: &mut Meddled<MemDisks>,
+    state: &mut ScanState,
+) -> Result<(), Fail>
+    requires gates { HoldsNone (acts_of desk.old.board.core) 0 }
+    requires unused { IsUnused state.old }
+    requires mode { GoesOn (wanted_of state.old).mode }
+{
+    put_three(alloc, desk)?;
+    begins(alloc, desk, state, &[(1, 0, 1)], false)?;
+    middle_goes(alloc, desk, 1)?;
+    rests(desk)?;
+    put(alloc, desk, "0001", 4, (3, 2))?;
+    three_batches(alloc, desk, state, &[])
+}
+
+/// What was found there is gone when it is read again.
+#[test]
+fn a_place_is_used_anew_beside_others(rt: HostRuntime) -> Result<(), Fail> {
+    let alloc = rt.alloc();
+    let mut desk = beside(alloc, small(Ops::Hamming))?;
+    let mut state = scan(alloc, "0000", 1, Mode::Relaxed)?;
+    used_between(alloc, &mut desk, &mut state)?;
     ends_beside(alloc, small(Ops::Hamming), desk)
 }
