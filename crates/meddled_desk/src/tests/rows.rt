@@ -14,7 +14,7 @@ use empty_index::empty_index;
 use hnsw_scan::{Mode, ScanState};
 use vec_names::{Kind, Ops, Params};
 use worked_rows::{
-    answered_later, begins, come_and_go, comes_again, common_places, eleven_equal, left_out,
+    answered_later, begins, come_and_go, comes_again, common_places, eleven_equal, finds, left_out,
     middle_goes, none_held, one_by_one, put, put_three, scan, three_are_found, three_batches,
     two_long,
 };
@@ -113,6 +113,16 @@ fn ends_beside(alloc: Global, params: Params, desk: Meddled<MemDisks>) -> Result
         return Err(Fail::new("acts of others"));
     }
     Ok(audit_hnsw(alloc, &base, board.acts())?)
+}
+
+/// No row, and the end at once: the entry point that an ask of another would set is passed over.
+#[test]
+fn an_empty_index_has_no_row_beside_others(rt: HostRuntime) -> Result<(), Fail> {
+    let alloc = rt.alloc();
+    let mut desk = beside(alloc, small(Ops::Hamming))?;
+    finds(alloc, &mut desk, "0000", 3, &[])?;
+    finds(alloc, &mut desk, "1111", 3, &[])?;
+    ends_beside(alloc, small(Ops::Hamming), desk)
 }
 
 #[test]
