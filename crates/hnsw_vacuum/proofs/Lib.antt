@@ -10,3 +10,7 @@ pub mod Entries
 pub mod Sees
 pub mod SeesPages
 pub mod Marks
+pub mod Glances
+pub mod PageLooks
+pub mod Seeks
+pub mod Finds

@@ -9,6 +9,7 @@ use Rattle.vec_names.specs.declared.params.Params.{Params}
 use Rattle.vec_history.specs.declared.event.Event.{Event}
 use Rattle.vec_history.specs.declared.event.Event.TheVariants as event
 use Rattle.vec_history.specs.declared.event.Act.{Act}
+use Rattle.vec_history.specs.declared.stage.Stage.{Stage}
 use Rattle.vec_history.specs.declared.stage.Stage.TheVariants.{Mark}
 use Rattle.vec_history.specs.Acts.{NoneFrom}
 use Rattle.vec_history.specs.Phases.{IsInPhase, IsOfVacuum}
@@ -68,13 +69,13 @@ same_or_other (suc a) (suc b) =
     ]
 
 module _ (g : Graph) {desk : ℕ} {old new : List Act} {es : List Event} (legal : history.IsLegal g new) (x : Acts desk old new es) (none : NoneOf IsOfVacuum es)
-    (p : IsInPhase old desk Mark) (q : Tid) (none_at : NoneOf (IsMarkAt q) es) where
+    (stage : Stage) (p : IsInPhase old desk stage) (q : Tid) (none_at : NoneOf (IsMarkAt q) es) where
   no_marks : NoneFrom new (length old) (λ a. IsMarkAt q a.event)
   no_marks j a low is mark =
       let inside = slice_get_within new j a is in
       elim (same_or_other a.desk desk) as (λ _. ⊥) [
         | inl same ↦ own_none (IsMarkAt q) desk x none_at j a low is (same, mark)
-        | inr other ↦ no_mark g (take j new) desk a.desk other a.event (allowed_at (IsAllowed g) new j a legal is) Mark (phase_at g legal x Mark none p j low (omega (arith, inside))) q mark
+        | inr other ↦ no_mark g (take j new) desk a.desk other a.event (allowed_at (IsAllowed g) new j a legal is) stage (phase_at g legal x stage none p j low (omega (arith, inside))) q mark
       ]
 
   pub doomed_lasts : nodes.IsShaped g → (list_at : Tid) (version : ℕ) → StandsDoomed (after g old) (record { at = q; list_at = list_at; version = version })
@@ -162,7 +163,7 @@ module _ {stands : Index → Type 0} {d : Desk} {old : List Act} (s : Doomed) wh
       (is : IsStepped (Asks stands d old (ask.Mark s.at s.list_at s.version)) d old new (ask.Mark s.at s.list_at s.version) told) where
     still_doomed : (g : Graph) → nodes.IsShaped g → history.IsLegal g new → MayMark g old d.number s → StandsDoomed (after g (take told.at new)) s
     still_doomed g shaped legal may =
-        doomed_lasts g (cut (IsAllowed g) new told.at legal) (acts_before is) tt may.phase s.at tt shaped s.list_at s.version may.stands
+        doomed_lasts g (cut (IsAllowed g) new told.at legal) (acts_before is) tt Mark may.phase s.at tt shaped s.list_at s.version may.stands
 
     cleared_by : (g : Graph) → StandsDoomed (after g (take told.at new)) s
         → clear_told told.word ≡ clear_reply (node_at (after g (take told.at new)) s.at) s.version → clear_told told.word ≡ Cleared
@@ -249,7 +250,7 @@ module _ (g : Graph) (shaped : nodes.IsShaped g) {over : Index → Type 0} {d : 
       → AllByRecursion (StandsDoomed (after g old)) ts → AllByRecursion (StandsDoomed (after g new)) ts
   rest_stand nodes m [] apart all = tt
   rest_stand nodes m (t ∷ ts) apart all = (
-    doomed_lasts g legal x.made.does.acts (quiet d.params x.course x.made.only) m.phase t.at
+    doomed_lasts g legal x.made.does.acts (quiet d.params x.course x.made.only) Mark m.phase t.at
         (kept_of d.params s t.at before now (steps_of x.course) (λ e. apart.0 (sym e)) (only_steps IsOfMarks x.course x.made.only) x.is) shaped t.list_at t.version all.0,
     rest_stand nodes m ts apart.1 all.1,
   )

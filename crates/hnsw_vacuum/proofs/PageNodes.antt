@@ -14,15 +14,15 @@ use Rattle.vec_graph.specs.declared.graph.Graph.{Graph}
 use Rattle.graph_search.specs.Reads.{Seen, nodes_on, seen_of}
 use Rattle.hnsw_vacuum.specs.Dropping.{AreSeenApart, StandsTold}
 
-first : (a b : Bool) → T (a && b) → T a
+pub first : (a b : Bool) → T (a && b) → T a
 first true b p = tt
 first false b p = absurd p
 
-second : (a b : Bool) → T (a && b) → T b
+pub second : (a b : Bool) → T (a && b) → T b
 second true b p = p
 second false b p = absurd p
 
-is_less : (r : Ordering) → T (is_lt r) → r ≡ Less
+pub is_less : (r : Ordering) → T (is_lt r) → r ≡ Less
 is_less Less p = refl
 is_less Equal p = absurd p
 is_less Greater p = absurd p
@@ -59,7 +59,7 @@ module _ {K X : Type 0} (R : K → K → Ordering) (total : IsTotalOrder R) wher
 -- ---- lists
 
 -- what is kept of these, as it is told, is so too
-all_told : {X Y : Type 0} (f : X → Y) (P : Y → Type 0) (test : X → Bool) (xs : List X) → AllByRecursion (λ x. P (f x)) xs → AllByRecursion P (map f (filter test xs))
+pub all_told : {X Y : Type 0} (f : X → Y) (P : Y → Type 0) (test : X → Bool) (xs : List X) → AllByRecursion (λ x. P (f x)) xs → AllByRecursion P (map f (filter test xs))
 all_told f P test [] all = tt
 all_told f P test (x ∷ xs) all =
     elim (test x) as (λ b. AllByRecursion P (map f (cond b (x ∷ filter test xs) (filter test xs)))) [

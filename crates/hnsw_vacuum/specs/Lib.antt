@@ -5,3 +5,4 @@ pub mod Dropping
 pub mod Removing
 pub mod Taking
 pub mod Marking
+pub mod Seeking

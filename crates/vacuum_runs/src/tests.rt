@@ -1,13 +1,14 @@
-ghost use Rattle.std.specs.Prelude.{◌≡◌, ◌≤◌, false};
+ghost use Rattle.std.specs.Prelude.{◌≡◌, ◌≤◌, false, length};
 ghost use Rattle.vec_names.specs.Params.{IsInRange};
 
 use arrayvec::ArrayVec;
-use hnsw_vacuum::{Tally, drop_all, drop_dead};
+use bit_code::Bits;
+use hnsw_vacuum::{Tally, drop_all, drop_dead, look_for_doomed};
 use std::alloc::Global;
 use std::test::*;
-use vec_graph::Graph;
+use vec_graph::{Graph, Node};
 use vec_names::{HeapId, Kind, Listed, Mapped, Ops, Params, Tid};
-use vec_steps::{OpFault, Seen, Steps, StillDesk, Told};
+use vec_steps::{OpFault, Seen, Steps, StillDesk, Told, Trace};
 
 /// The parameters of a graph whose values have 4 places, with m 2.
 fn small() -> Params
@@ -157,5 +158,66 @@ fn a_drop_is_due_where_nothing_is_left(rt: HostRuntime) -> Result<(), Fail> {
         Ok(now) => assert!(rt; now.due),
         Err(_) => assert!(rt; false),
     }
+    Ok(())
+}
+
+/// Puts a node of version 3 at an offset of block 1, with its list at 1/9: with row 5/6, or none.
+fn put(
+    alloc: Global,
+    nodes: &mut Mapped<Node>,
+    off: u16,
+    has_row: bool,
+    deleted: bool,
+) -> Result<(), Fail>
+    requires { 1 ≤ off }
+{
+    let mut ids = Listed::new(alloc);
+    if has_row {
+        ids.push(row(6))?;
+    }
+    let node = Node {
+        level: 0,
+        version: 3,
+        deleted,
+        bits: Bits::zeros(alloc, 4)?,
+        ids,
+        list_at: Tid { block: 1, off: 9 },
+        slots: Listed::new(alloc),
+    };
+    nodes.insert(Tid { block: 1, off }, node)?;
+    Ok(())
+}
+
+/// What a look at an offset of block 1 tells of a node without rows: its version, 0 for none.
+fn version_without_rows(desk: &mut StillDesk, off: u16, told: &mut Told, trace: &mut Trace) -> u8
+    requires off { 1 ≤ off }
+    requires told { length told.old.bits ≡ desk.old.graph.params.bits }
+    ensures told { length told.new.bits ≡ desk.old.graph.params.bits }
+    ensures same { desk.new.graph.params ≡ desk.old.graph.params }
+{
+    let at = Tid { block: 1, off };
+    match look_for_doomed(desk, at, told, trace) {
+        Ok(Some(node)) => node.version,
+        _ => 0,
+    }
+}
+
+#[test]
+fn a_node_without_rows_is_found_and_no_other(rt: HostRuntime) -> Result<(), Fail> {
+    let alloc = rt.alloc();
+    let mut desk = desk(alloc);
+    put(alloc, &mut desk.graph.nodes, 1, true, false)?;
+    put(alloc, &mut desk.graph.nodes, 2, false, false)?;
+    put(alloc, &mut desk.graph.nodes, 3, false, true)?;
+    let mut told = Told::make(alloc, small())?;
+    let mut trace = Trace {
+        reads: Listed::new(alloc),
+    };
+    let live = version_without_rows(&mut desk, 1, &mut told, &mut trace);
+    let doomed = version_without_rows(&mut desk, 2, &mut told, &mut trace);
+    let deleted = version_without_rows(&mut desk, 3, &mut told, &mut trace);
+    let none = version_without_rows(&mut desk, 4, &mut told, &mut trace);
+    assert!(rt; live == 0 && doomed == 3 && deleted == 0 && none == 0);
+    assert!(rt; trace.reads.len() == 4);
     Ok(())
 }
