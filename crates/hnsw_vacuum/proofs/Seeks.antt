@@ -31,7 +31,7 @@ use Rattle.vec_steps.specs.Calls.{Acts}
 use Rattle.vec_steps.proofs.Following.{acts_longer}
 use Rattle.vec_steps.proofs.Lasting.{front_is, own_none}
 use Rattle.hnsw_vacuum.specs.declared.marking.Doomed.{Doomed}
-use Rattle.hnsw_vacuum.specs.Marking.{StandsDoomed}
+use Rattle.hnsw_vacuum.specs.Marking.{AreDoomedApart, StandsDoomed}
 use Rattle.hnsw_vacuum.specs.Removing.{HasBlocks}
 use Rattle.hnsw_vacuum.specs.Seeking.{AreAllDoomed, AreRising, IsBare, IsBareAt, IsFoundAt, Seeks, places_of, places_seen}
 use Rattle.hnsw_vacuum.proofs.Lasts.{blocks_last, phase_lasts}
@@ -274,10 +274,28 @@ seeks_first g acts desk count shaped phase there = record {
       absurd (omega (arith, from, low));
 }
 
+-- no place is before itself
+never_before : (x : Tid) → tid_cmp x x ≡ Less → ⊥
+never_before x less =
+    let blocks : nat_cmp x.block x.block ≡ Equal = sym (nat_cmp_is x.block x.block Equal refl) in
+    let offs : nat_cmp x.off x.off ≡ Equal = sym (nat_cmp_is x.off x.off Equal refl) in
+    let equal : tid_cmp x x ≡ Equal = ap (λ r. ordering_then r (nat_cmp x.off x.off)) blocks ∙ offs in
+    let e : Equal ≡ Less = sym equal ∙ less in absurd cc
+
+apart_from : (s : Doomed) (ts : List Doomed) → AllByRecursion (λ (to : Tid). tid_cmp s.at to ≡ Less) (places_of ts)
+    → AllByRecursion (λ (t : Doomed). t.at ≡ s.at → ⊥) ts
+apart_from s [] all = tt
+apart_from s (t ∷ ts) all = (λ same. never_before s.at (subst (λ (q : Tid). tid_cmp s.at q ≡ Less) same all.0), apart_from s ts all.1)
+
+all_apart : (ds : List Doomed) → AreRising (places_of ds) → AreDoomedApart ds
+all_apart [] r = tt
+all_apart (d ∷ ds) r = (apart_from d ds r.0, all_apart ds r.1)
+
 pub all_doomed : {g : Graph} {acts : List Act} {desk bound count : ℕ} {found : List Doomed} → count ≤ bound → Seeks g acts desk bound count [] found
     → AreAllDoomed (after g acts) found
 all_doomed {found = found} high s = record {
   stand = s.stand;
   rising = subst AreRising (append-nil (places_of found)) s.rising;
+  apart = all_apart found (subst AreRising (append-nil (places_of found)) s.rising);
   all = λ at d. none_left at found (s.all at (let within = s.within at d in omega (arith, within, high)) d);
 }

@@ -16,7 +16,7 @@ use Rattle.vec_steps.specs.Desks.{Desk}
 use Rattle.hnsw_vacuum.specs.declared.marking.Doomed.{Doomed}
 use Rattle.hnsw_vacuum.specs.Courses.{Makes}
 use Rattle.hnsw_vacuum.specs.Removing.{IsOfLooks, LooksOnce, SaysNoMore}
-use Rattle.hnsw_vacuum.specs.Marking.{StandsDoomed}
+use Rattle.hnsw_vacuum.specs.Marking.{AreDoomedApart, StandsDoomed}
 
 -- ---- what is found
 
@@ -36,6 +36,7 @@ IsFoundAt at (d ∷ found) = (d.at ≡ at) ⊎ IsFoundAt at found
 pub record AreAllDoomed (g : Graph) (found : List Doomed) : Type 0 where
   pub stand : AllByRecursion (StandsDoomed g) found
   pub rising : AreRising (places_of found)
+  pub apart : AreDoomedApart found
   pub all : (at : Tid) → IsDoomedAt g at → IsFoundAt at found
 
 -- A call that only looks; the positions of its looks came to a trace.
