@@ -14,9 +14,9 @@ use empty_index::empty_index;
 use hnsw_scan::{Mode, ScanState};
 use vec_names::{Kind, Ops, Params};
 use worked_rows::{
-    answered_later, begins, come_and_go, comes_again, common_places, eleven_equal, finds, left_out,
-    middle_goes, none_held, one_by_one, put, put_three, scan, three_are_found, three_batches,
-    two_long,
+    Row, answered_later, begins, come_and_go, comes_again, common_places, eleven_equal, finds,
+    left_out, middle_goes, none_held, one_by_one, put, put_three, scan, three_are_found,
+    three_batches, two_long,
 };
 
 /// The parameters of a graph of values of four places, with m 2 and ef 4.
@@ -221,11 +221,30 @@ fn a_row_comes_after_all_went_beside_others(rt: HostRuntime) -> Result<(), Fail>
     ends_beside(alloc, small(Ops::Hamming), desk)
 }
 
-/// Between two batches the row at 1/3 goes, and another comes there.
+/// So many times the row at 1/3 goes, from version 1 on, and another comes there, which makes the next version of the place; after 255
+/// comes 1.
+fn used_often(alloc: Global, desk: &mut Meddled<MemDisks>, times: u32) -> Result<(), Fail>
+    requires { HoldsNone (acts_of desk.old.board.core) 0 }
+    ensures { OnOk result (HoldsNone (acts_of desk.new.board.core) 0) }
+{
+    let mut version: u8 = 1;
+    'time: for _ in 0..times {
+        middle_goes(alloc, desk, version)?;
+        rests(desk)?;
+        version = if version == 255 { 1 } else { version + 1 };
+        put(alloc, desk, "0001", 4, (3, version))?;
+    }
+    rests(desk)
+}
+
+/// Three rows; the first batch of 0000, of one element; the place 1/3 used anew so many times; and then the other batches, of which the
+/// second has these rows.
 fn used_between(
     alloc: Global,
     desk: &mut Meddled<MemDisks>,
     state: &mut ScanState,
+    times: u32,
+    second: &[Row],
 ) -> Result<(), Fail>
     requires gates { HoldsNone (acts_of desk.old.board.core) 0 }
     requires unused { IsUnused state.old }
@@ -233,18 +252,27 @@ fn used_between(
 {
     put_three(alloc, desk)?;
     begins(alloc, desk, state, &[(1, 0, 1)], false)?;
-    middle_goes(alloc, desk, 1)?;
-    rests(desk)?;
-    put(alloc, desk, "0001", 4, (3, 2))?;
-    three_batches(alloc, desk, state, &[])
+    used_often(alloc, desk, times)?;
+    three_batches(alloc, desk, state, second)
 }
 
-/// What was found there is gone when it is read again.
-#[test]
-fn a_place_is_used_anew_beside_others(rt: HostRuntime) -> Result<(), Fail> {
-    let alloc = rt.alloc();
+/// The place 1/3 is used anew so many times between two batches, in mode Relaxed.
+fn is_used(alloc: Global, times: u32, second: &[Row]) -> Result<(), Fail> {
     let mut desk = beside(alloc, small(Ops::Hamming))?;
     let mut state = scan(alloc, "0000", 1, Mode::Relaxed)?;
-    used_between(alloc, &mut desk, &mut state)?;
+    used_between(alloc, &mut desk, &mut state, times, second)?;
     ends_beside(alloc, small(Ops::Hamming), desk)
+}
+
+/// What was found there is gone when it is read again, after once and after fifteen times.
+#[test]
+fn a_place_is_used_anew_beside_others(rt: HostRuntime) -> Result<(), Fail> {
+    is_used(rt.alloc(), 1, &[])?;
+    is_used(rt.alloc(), 15, &[])
+}
+
+/// After 255 times the version is 1 again, and the row that is there now is answered.
+#[test]
+fn versions_come_round_beside_others(rt: HostRuntime) -> Result<(), Fail> {
+    is_used(rt.alloc(), 255, &[(4, 1, 1)])
 }
